@@ -1,0 +1,6 @@
+pub mod Crc32c
+pub mod Mask
+pub mod Table
+pub mod Bytes
+pub mod Xor
+pub mod Laws
