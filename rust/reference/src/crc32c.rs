@@ -1,0 +1,34 @@
+//! CRC32C as RFC 3720, section 12.1, puts it: the remainder of a division of polynomials, one bit
+//! after the other. Polynomials are written the ordinary way round, the highest power first.
+
+/// The generator polynomial 0x11EDC6F41, whose x^32 is left out: it cancels the bit that leaves.
+const GENERATOR: u32 = 0x1EDC_6F41;
+
+/// The CRC32C of a message.
+pub fn crc32c(message: &[u8]) -> u32 {
+    let mut remainder: u32 = 0;
+    for (place, bit) in times_x32(message).enumerate() {
+        // "The most significant 32 bits are complemented."
+        let bit = if place < 32 { !bit } else { bit };
+        let leaves = remainder >> 31 == 1;
+        remainder = (remainder << 1) | u32::from(bit);
+        if leaves {
+            remainder ^= GENERATOR;
+        }
+    }
+    // "The bit sequence is complemented and the result is the CRC." Its first bit is the lowest
+    // one of the first byte, and the first byte the lowest one of the number.
+    (!remainder).reverse_bits()
+}
+
+/// The coefficients of the message's polynomial multiplied by x^32, the highest power first: the
+/// bits of each byte from the lowest to the highest, then 32 zeros.
+fn times_x32(message: &[u8]) -> impl Iterator<Item = bool> + '_ {
+    let bits = |byte: u8| (0..8).map(move |i| (byte >> i) & 1 == 1);
+    message.iter().copied().chain([0; 4]).flat_map(bits)
+}
+
+/// The form in which LevelDB stores a CRC: rotated right by 15 bits, plus 0xA282EAD8.
+pub fn mask(crc: u32) -> u32 {
+    crc.rotate_right(15).wrapping_add(0xA282_EAD8)
+}

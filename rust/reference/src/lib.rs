@@ -1,0 +1,8 @@
+//! A second implementation, written from the published documents alone. It shares no code and no
+//! table with the proved one, takes the plainest way, and makes the outputs the proved one is
+//! held to.
+
+mod crc32c;
+pub mod vectors;
+
+pub use crc32c::{crc32c, mask};

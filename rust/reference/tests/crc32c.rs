@@ -1,0 +1,22 @@
+use reference::{crc32c, mask, vectors};
+
+#[test]
+fn agrees_with_the_published_vectors() {
+    for vector in vectors::published() {
+        assert_eq!(crc32c(&vector.bytes), vector.published, "{}", vector.name);
+    }
+}
+
+/// The mask's values in document 01, rows M 9 and 10.
+#[test]
+fn masks_as_the_document_says() {
+    assert_eq!(mask(0), 0xA282_EAD8);
+    assert_eq!(mask(1), 0xA284_EAD8);
+}
+
+/// The proved program is held to this output, so it must be the one that this crate makes.
+#[test]
+fn made_the_stored_output() {
+    let stored = include_str!("../../../crates/run_crc32c/stdout");
+    assert_eq!(stored, vectors::listing());
+}
