@@ -1,5 +1,10 @@
 //! The proved calls, for Rust.
 
+// The examples of the README are run as tests.
+#[cfg(doctest)]
+#[doc = include_str!("../../../README.md")]
+struct Readme;
+
 extern "C" {
     fn mellansko_crc32c(bytes: *const u8, bytes_len: usize) -> u32;
     fn mellansko_mask(checksum: u32) -> u32;
