@@ -8,7 +8,7 @@ const GENERATOR: u32 = 0x1EDC_6F41;
 pub fn crc32c(message: &[u8]) -> u32 {
     let mut remainder: u32 = 0;
     for (place, bit) in times_x32(message).enumerate() {
-        // "The most significant 32 bits are complemented."
+        // The first 32 bits are complemented, so that zeros in front of a message count.
         let bit = if place < 32 { !bit } else { bit };
         let leaves = remainder >> 31 == 1;
         remainder = (remainder << 1) | u32::from(bit);
@@ -16,8 +16,8 @@ pub fn crc32c(message: &[u8]) -> u32 {
             remainder ^= GENERATOR;
         }
     }
-    // "The bit sequence is complemented and the result is the CRC." Its first bit is the lowest
-    // one of the first byte, and the first byte the lowest one of the number.
+    // The remainder, complemented, is the CRC. Its first bit is the lowest one of the first byte,
+    // and the first byte the lowest one of the number.
     (!remainder).reverse_bits()
 }
 

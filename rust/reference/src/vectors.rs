@@ -11,7 +11,8 @@ pub struct Vector {
 }
 
 /// RFC 3720, appendix B.4, which prints each CRC as its four bytes, lowest first; and "123456789",
-/// whose CRC the catalogues of CRCs list as the check value.
+/// whose CRC the catalogues of CRCs list as the check value. docs/DECISIONS.md says how these
+/// figures were come by and what they were compared with.
 pub fn published() -> Vec<Vector> {
     let vector = |name, bytes, crc| Vector {
         name,
