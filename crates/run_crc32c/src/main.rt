@@ -35,7 +35,8 @@ fn whole(name: &[u8], bytes: &[u8]) {
 }
 
 fn typed(name: &[u8], kind: u8, data: &[u8]) {
-    line(name, Crc32c::of_typed(kind, data));
+    let table = Crc32c::table();
+    line(name, Crc32c::of_typed(&table, kind, data));
 }
 
 // The checksum, the masked checksum, and what they are of.
