@@ -1,6 +1,9 @@
+pub mod Copying
 pub mod Fields
+pub mod Gathering
 pub mod Judging
 pub mod Looks
 pub mod Parts
 pub mod Scanning
 pub mod Stepping
+pub mod Telling
