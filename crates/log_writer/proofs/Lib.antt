@@ -1,0 +1,7 @@
+pub mod Overwrite
+pub mod Sizes
+pub mod Refusals
+pub mod Zeros
+pub mod Fragments
+pub mod Rest
+pub mod Answers
