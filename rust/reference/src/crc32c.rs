@@ -1,6 +1,9 @@
 //! CRC32C as RFC 3720, section 12.1, puts it: the remainder of a division of polynomials, one bit
 //! after the other. Polynomials are written the ordinary way round, the highest power first.
 
+use std::array;
+use std::sync::LazyLock;
+
 /// The generator polynomial 0x11EDC6F41, whose x^32 is left out: it cancels the bit that leaves.
 const GENERATOR: u32 = 0x1EDC_6F41;
 
@@ -27,6 +30,21 @@ fn times_x32(message: &[u8]) -> impl Iterator<Item = bool> + '_ {
     let bits = |byte: u8| (0..8).map(move |i| (byte >> i) & 1 == 1);
     message.iter().copied().chain([0; 4]).flat_map(bits)
 }
+
+/// The same checksum a byte at a time, for the many bytes of logs. Its table is made by the
+/// division above.
+pub fn crc32c_by_bytes(message: &[u8]) -> u32 {
+    let table: &[u32; 256] = &TABLE;
+    let register = message.iter().fold(u32::MAX, |register, byte| {
+        table[usize::from(register as u8 ^ byte)] ^ (register >> 8)
+    });
+    !register
+}
+
+/// The register starts as 32 ones. So the one byte of a message finds the entry at its complement,
+/// and that entry, with the 24 ones that are left of the start, is the complement of the CRC.
+static TABLE: LazyLock<[u32; 256]> =
+    LazyLock::new(|| array::from_fn(|entry| !crc32c(&[!(entry as u8)]) ^ 0x00FF_FFFF));
 
 /// The form in which LevelDB stores a CRC: rotated right by 15 bits, plus 0xA282EAD8.
 pub fn mask(crc: u32) -> u32 {

@@ -3,6 +3,7 @@
 //! held to.
 
 mod crc32c;
+pub mod log;
 pub mod vectors;
 
-pub use crc32c::{crc32c, mask};
+pub use crc32c::{crc32c, crc32c_by_bytes, mask};

@@ -1,10 +1,21 @@
-use reference::{crc32c, mask, vectors};
+use reference::{crc32c, crc32c_by_bytes, mask, vectors};
 
 #[test]
 fn agrees_with_the_published_vectors() {
     for vector in vectors::published() {
         assert_eq!(crc32c(&vector.bytes), vector.published, "{}", vector.name);
     }
+}
+
+/// Each byte at each of a few places, on a register that earlier bytes left, and a longer run.
+#[test]
+fn is_the_same_by_bytes() {
+    for byte in 0..=255 {
+        for message in [&[byte][..], &[0, byte], &[byte, 0xFF, byte], &[byte; 300]] {
+            assert_eq!(crc32c_by_bytes(message), crc32c(message), "{message:02x?}");
+        }
+    }
+    assert_eq!(crc32c_by_bytes(&[]), crc32c(&[]));
 }
 
 /// The mask's values in document 01, rows M 9 and 10.

@@ -1,0 +1,232 @@
+//! The reference's log against document 01: the rows M of "Marked runs" (9 and 10, of the mask, are
+//! in tests/crc32c.rs), the lists of "Run and compared", and the table of two rows.
+
+use reference::log::{
+    append, fragment, next, record_bytes, Appended, Next, Stored, Tail, LONGEST_LOG, LONGEST_RECORD,
+};
+
+#[test]
+fn rows_1_to_8_size_added_at_a_used_mark() {
+    let rows = [
+        (0, 1_000, 1_007),
+        (1_007, 97_270, 97_291),
+        (98_298, 8_000, 8_013),
+        (32_761, 0, 7),
+        (32_761, 1, 15),
+        (32_762, 0, 13),
+        (0, 32_761, 32_768),
+        (0, 32_762, 32_776),
+    ];
+    for (mark, bytes, size) in rows {
+        let record = vec![0x11; bytes];
+        let mut log = vec![0xA5; mark + size];
+        assert_eq!(
+            append(&mut log, mark, &record),
+            Appended::Mark(mark + size),
+            "mark {mark}, {bytes} bytes"
+        );
+        log.pop();
+        assert_eq!(
+            append(&mut log, mark, &record),
+            Appended::Refused {
+                number: 4,
+                given: mark
+            },
+            "mark {mark}, {bytes} bytes in one byte too few"
+        );
+    }
+}
+
+#[test]
+fn rows_11_to_15_reading_from_0_with_limit_100() {
+    let clean = Next::End(Tail::Clean);
+    let torn = Next::End(Tail::Torn(0));
+    let rows: [(&[u8], &[Next]); 6] = [
+        (&[], &[clean]),
+        (&[0; 6], &[torn]),
+        (&[0xFF; 6], &[torn]),
+        (&[0; 7], &[skip(0, 7, 2), clean]),
+        (&[0, 0, 0, 0, 0xFF, 0xFF, 1], &[skip(0, 7, 1), clean]),
+        (&[0, 0, 0, 0, 1, 0, 1], &[torn]),
+    ];
+    for (log, answers) in rows {
+        let read: Vec<Next> = read(log, 100).into_iter().map(|(next, _)| next).collect();
+        assert_eq!(read, answers, "{log:02x?}");
+    }
+}
+
+#[test]
+fn the_example_whole() {
+    let (log, records) = example();
+    let [first, second, third] = handed(&records);
+    let clean = (Next::End(Tail::Clean), vec![]);
+    assert_eq!(read(&log, 262_144), [first, second, third, clean]);
+}
+
+#[test]
+fn the_example_cut() {
+    let (log, records) = example();
+    let [first, second, _] = handed(&records);
+    let clean = (Next::End(Tail::Clean), vec![]);
+    let torn = (Next::End(Tail::Torn(98_304)), vec![]);
+    assert_eq!(
+        read(&log[..106_310], 262_144),
+        [first.clone(), second.clone(), torn]
+    );
+    assert_eq!(read(&log[..98_300], 262_144), [first, second, clean]);
+}
+
+#[test]
+fn the_example_with_byte_40_000_changed() {
+    let (log, records) = example();
+    for change in 1..=255 {
+        let mut log = log.clone();
+        log[40_000] ^= change;
+        let [first, _, third] = handed(&records);
+        let list = [
+            first,
+            (skip(1_007, 32_768, 4), vec![]),
+            (skip(32_768, 65_536, 3), vec![]),
+            (skip(65_536, 98_298, 5), vec![]),
+            third,
+            (Next::End(Tail::Clean), vec![]),
+        ];
+        assert_eq!(read(&log, 262_144), list, "changed by {change:02x}");
+    }
+}
+
+#[test]
+fn the_longest_record_and_the_longest_log() {
+    let mut log = vec![0; LONGEST_LOG];
+    let record = vec![0x11; LONGEST_RECORD + 1];
+    assert_eq!(append(&mut log, 0, &record), refused(3));
+    assert!(matches!(
+        append(&mut log, 0, &record[1..]),
+        Appended::Mark(_)
+    ));
+    let mut buffer = [0; 100];
+    assert_eq!(
+        next(&log, LONGEST_LOG, 100, &mut buffer),
+        Next::End(Tail::Clean)
+    );
+    log.push(0);
+    assert_eq!(append(&mut log, 0, &[]), refused(1));
+    let (number, given) = (1, 0);
+    assert_eq!(
+        next(&log, 0, 100, &mut buffer),
+        Next::Refused { number, given }
+    );
+}
+
+/// A fragment of 3 bytes, behind nothing and behind a FIRST of 2, with a limit that both keep.
+#[test]
+fn the_table_of_two_rows() {
+    let torn = Next::End(Tail::Torn(0));
+    let whole = record(0, 10, 3, Stored::Whole(7));
+    let gathered = record(0, 19, 5, Stored::Gathered);
+    let rows = [
+        (1, whole, skip(0, 9, 4)),
+        (2, torn, skip(0, 9, 4)),
+        (3, skip(0, 10, 5), torn),
+        (4, skip(0, 10, 5), gathered),
+        (0, skip(0, 10, 6), skip(0, 9, 4)),
+        (5, skip(0, 10, 6), skip(0, 9, 4)),
+        (255, skip(0, 10, 6), skip(0, 9, 4)),
+    ];
+    for (kind, nothing_open, record_open) in rows {
+        let log = fragment(kind, &[7; 3]);
+        assert_eq!(read(&log, 3)[0].0, nothing_open, "type {kind}");
+        let log = [fragment(2, &[7; 2]), log].concat();
+        assert_eq!(read(&log, 5)[0].0, record_open, "type {kind}");
+    }
+}
+
+/// The same with a limit that is one lower: "instead of hand out, open or extend".
+#[test]
+fn over_the_limit() {
+    let rows = [
+        (1, skip(0, 10, 7), skip(0, 9, 4)),
+        (2, skip(0, 10, 7), skip(0, 9, 4)),
+        (3, skip(0, 10, 5), skip(0, 19, 7)),
+        (4, skip(0, 10, 5), skip(0, 19, 7)),
+        (5, skip(0, 10, 6), skip(0, 9, 4)),
+    ];
+    for (kind, nothing_open, record_open) in rows {
+        let log = fragment(kind, &[7; 3]);
+        assert_eq!(read(&log, 2)[0].0, nothing_open, "type {kind}");
+        let log = [fragment(2, &[7; 2]), log].concat();
+        assert_eq!(read(&log, 4)[0].0, record_open, "type {kind}");
+    }
+}
+
+/// "Where reason 1, 2 or 3 arises with a record open, reason 4 is answered first."
+#[test]
+fn interrupted_before_bad() {
+    let first = fragment(2, &[7; 2]);
+    let bad = [
+        (vec![0, 0, 0, 0, 0xFF, 0xFF, 1], 1),
+        (vec![0; 7], 2),
+        (vec![0, 0, 0, 0, 0, 0, 1], 3),
+    ];
+    for (header, reason) in bad {
+        let log = [first.clone(), header, vec![0xA5; 20]].concat();
+        let answers = [skip(0, 9, 4), skip(9, 36, reason), Next::End(Tail::Clean)];
+        let read: Vec<Next> = read(&log, 100).into_iter().map(|(next, _)| next).collect();
+        assert_eq!(read, answers);
+    }
+}
+
+/// Rows 1 to 3 of M in turn, in a log that held other bytes.
+fn example() -> (Vec<u8>, [Vec<u8>; 3]) {
+    let records: [Vec<u8>; 3] =
+        [1_000, 97_270, 8_000].map(|bytes| (0..bytes).map(|i| (i * 7 + i / 251) as u8).collect());
+    let mut log = vec![0xA5; 106_311];
+    let mut mark = 0;
+    for (record, end) in records.iter().zip([1_007, 98_298, 106_311]) {
+        assert_eq!(append(&mut log, mark, record), Appended::Mark(end));
+        mark = end;
+    }
+    (log, records)
+}
+
+/// The records' lines in the document's list, with the bytes that are then asked for.
+fn handed(records: &[Vec<u8>; 3]) -> [(Next, Vec<u8>); 3] {
+    let lines = [
+        record(0, 1_007, 1_000, Stored::Whole(7)),
+        record(1_007, 98_298, 97_270, Stored::Gathered),
+        record(98_304, 106_311, 8_000, Stored::Whole(98_311)),
+    ];
+    [0, 1, 2].map(|i| (lines[i], records[i].clone()))
+}
+
+fn record(start: usize, end: usize, length: usize, stored: Stored) -> Next {
+    Next::Record {
+        start,
+        end,
+        length,
+        stored,
+    }
+}
+
+fn skip(start: usize, end: usize, reason: u8) -> Next {
+    Next::Skip { start, end, reason }
+}
+
+fn refused(number: u8) -> Appended {
+    Appended::Refused { number, given: 0 }
+}
+
+/// Every answer from place 0 to the end, each with the bytes asked for right after it.
+fn read(log: &[u8], limit: usize) -> Vec<(Next, Vec<u8>)> {
+    let mut buffer = vec![0x5A; limit];
+    let mut answers = Vec::new();
+    let mut place = 0;
+    loop {
+        let answer = next(log, place, limit, &mut buffer);
+        answers.push((answer, record_bytes(log, &buffer, &answer).to_vec()));
+        if matches!(answer, Next::End(_) | Next::Refused { .. }) {
+            return answers;
+        }
+        place = answer.place_after(log);
+    }
+}
