@@ -1,0 +1,5 @@
+//! Makes crates/run_example/stdout.
+
+fn main() {
+    print!("{}", reference::runs::example::listing());
+}
