@@ -1,0 +1,154 @@
+//! Calls under test against the reference. Each call is made to both, on copies of the same bytes;
+//! the answers, the bytes asked for, and every lent byte and those around it must be the same.
+
+mod appends;
+mod cuts;
+mod damage;
+mod fragments;
+mod lent;
+mod make;
+mod refusals;
+mod sizes;
+mod words;
+
+use crate::random::Random;
+use lent::Lent;
+use reference::log::{append, next, record_bytes, Appended, Next, HEADER, LONGEST_RECORD};
+
+/// The calls under test. Their answers are the ten words of the C interface.
+pub trait Calls {
+    fn append(&self, log: &mut [u8], mark: usize, record: &[u8]) -> [u64; 10];
+    fn next(&self, log: &[u8], place: usize, limit: usize, buffer: &mut [u8]) -> [u64; 10];
+}
+
+/// Compares on everything there is here, and gives the number of calls that were compared.
+pub fn everything(calls: &dyn Calls) -> usize {
+    let mut comparison = Comparison {
+        calls,
+        random: Random::new(),
+        part: "",
+        made: 0,
+    };
+    let parts: [(&str, Part); 6] = [
+        ("refusals", refusals::all),
+        ("sizes", sizes::all),
+        ("appends", appends::all),
+        ("cuts", cuts::all),
+        ("damage", damage::all),
+        ("fragments", fragments::all),
+    ];
+    for (part, all) in parts {
+        comparison.part = part;
+        let before = comparison.made;
+        all(&mut comparison);
+        println!("{part}: {} calls", comparison.made - before);
+    }
+    comparison.made
+}
+
+type Part = fn(&mut Comparison);
+
+struct Comparison<'a> {
+    calls: &'a dyn Calls,
+    random: Random,
+    part: &'static str,
+    made: usize,
+}
+
+/// One call to both.
+impl Comparison<'_> {
+    fn append(&mut self, log: &mut Lent, mark: usize, record: &[u8]) -> Appended {
+        let record = Lent::new(record, &mut self.random);
+        let words = self.calls.append(log.tested_mut(), mark, record.tested());
+        let answer = append(log.expected_mut(), mark, record.expected());
+        self.made += 1;
+        let call = || {
+            let (log, record) = (log.len(), record.len());
+            self.name(&format!("append of {record} bytes at {mark} of {log}"))
+        };
+        assert_eq!(words, words::of_appended(answer), "answer, {}", call());
+        assert!(log.is_same(), "log, {}", call());
+        assert!(record.is_same(), "record, {}", call());
+        answer
+    }
+
+    fn next(&mut self, log: &Lent, place: usize, limit: usize, buffer: &mut Lent) -> Next {
+        let words = self
+            .calls
+            .next(log.tested(), place, limit, buffer.tested_mut());
+        let answer = next(log.expected(), place, limit, buffer.expected_mut());
+        self.made += 1;
+        let call = || {
+            let (log, buffer) = (log.len(), buffer.len());
+            self.name(&format!(
+                "next at {place} of {log}, limit {limit}, buffer {buffer}"
+            ))
+        };
+        let expected = words::of_next(answer, log.expected());
+        assert_eq!(words, expected, "answer, {}", call());
+        assert!(log.is_same(), "log, {}", call());
+        assert!(buffer.is_same(), "buffer, {}", call());
+        let tested = words::bytes(&words, log.tested(), buffer.tested());
+        let expected = record_bytes(log.expected(), buffer.expected(), &answer);
+        assert!(tested == expected, "bytes asked for, {}", call());
+        answer
+    }
+
+    /// What a failure prints, so that the call can be had again.
+    fn name(&self, call: &str) -> String {
+        format!("{}, call {}, {}: {call}", self.part, self.made, self.random)
+    }
+}
+
+/// Readings.
+impl Comparison<'_> {
+    /// Every answer from place 0 to the end, each with the bytes asked for right after it.
+    fn read(&mut self, log: &Lent, limit: usize, buffer: &mut Lent) -> Vec<(Next, Vec<u8>)> {
+        let mut answers = Vec::new();
+        let mut place = 0;
+        loop {
+            let answer = self.next(log, place, limit, buffer);
+            let bytes = record_bytes(log.expected(), buffer.expected(), &answer);
+            answers.push((answer, bytes.to_vec()));
+            match answer {
+                Next::Record { end, .. } | Next::Skip { end, .. } => place = end,
+                Next::End(_) | Next::Refused { .. } => break,
+            }
+        }
+        // "A log of N bytes is finished in at most N/7 (rounded down) + 1 calls."
+        let most = log.len() / HEADER + 1;
+        assert!(answers.len() <= most, "{}", self.name("calls of a reading"));
+        answers
+    }
+
+    /// Any bytes as a log: read to the end with a limit that no record is above, and with one at or
+    /// just below a record's length; then single calls, at a place that came up and at any, with
+    /// any limit and buffer.
+    fn examine(&mut self, bytes: &[u8]) {
+        let log = Lent::new(bytes, &mut self.random);
+        let most = bytes.len().min(LONGEST_RECORD);
+        let mut buffer = self.buffer(most);
+        let answers = self.read(&log, most, &mut buffer);
+        let (answer, record) = make::pick(&mut self.random, &answers);
+        let limit = record.len().saturating_sub(self.random.below(2));
+        buffer.cut(limit);
+        self.read(&log, limit, &mut buffer);
+        for place in [
+            answer.place_after(bytes),
+            self.random.below(bytes.len() + 2),
+        ] {
+            for _ in 0..3 {
+                let scale = self.random.below(most + 2);
+                let limit = self.random.below(scale + 1);
+                let short = usize::from(self.random.below(8) == 0);
+                buffer.cut(limit.saturating_sub(short).min(most));
+                self.next(&log, place, limit, &mut buffer);
+            }
+        }
+    }
+
+    fn buffer(&mut self, length: usize) -> Lent {
+        let bytes = self.random.bytes(length);
+        Lent::new(&bytes, &mut self.random)
+    }
+}
