@@ -1,0 +1,39 @@
+//! The proved checksum beside an ordinary one.
+
+use crate::byte_table;
+use crate::turns::{best, rate, timed, Way};
+use std::hint::black_box;
+
+pub fn print() {
+    println!("checksum: proved (a table of 16) against an ordinary Rust program (a table of 256)");
+    println!(
+        "{:>10} {:>12} {:>12} {:>6}",
+        "bytes", "proved MB/s", "plain MB/s", "ratio"
+    );
+    for size in [100, 1 << 10, 32 << 10, 1 << 20] {
+        let bytes: Vec<u8> = (0..size).map(|i| (i * 7 + i / 251) as u8).collect();
+        let (proved, plain) = rates(&bytes);
+        println!(
+            "{size:>10} {proved:>12.1} {plain:>12.1} {:>6.2}",
+            proved / plain
+        );
+    }
+}
+
+fn rates(bytes: &[u8]) -> (f64, f64) {
+    assert_eq!(mellansko::crc32c(bytes), byte_table::crc32c(bytes));
+    let calls = (1 << 22) / bytes.len();
+    let way = |checksum: fn(&[u8]) -> u32| -> Way {
+        Box::new(timed(move || {
+            for _ in 0..calls {
+                black_box(checksum(black_box(bytes)));
+            }
+        }))
+    };
+    let mut ways = [way(mellansko::crc32c), way(byte_table::crc32c)];
+    let times = best(25, &mut ways);
+    (
+        rate(calls * bytes.len(), times[0]),
+        rate(calls * bytes.len(), times[1]),
+    )
+}

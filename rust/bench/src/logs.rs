@@ -1,0 +1,154 @@
+//! The proved writer and reader beside the reference, a loop over the proved checksum alone, and
+//! LevelDB's own writer and reader.
+
+use crate::leveldb::Leveldb;
+use crate::turns::{best, rate, timed, Way};
+use reference::log::{Appended, Next, LONGEST_RECORD};
+use std::hint::black_box;
+
+/// How long the logs are.
+const LOG: usize = 15 << 20;
+
+const ROUNDS: usize = 11;
+
+/// The new mark, if the append was accepted.
+type Append = fn(log: &mut [u8], mark: usize, record: &[u8]) -> Option<usize>;
+
+/// The place to go on from, if the answer was a record.
+type Read = fn(log: &[u8], place: usize, buffer: &mut [u8]) -> Option<usize>;
+
+pub fn print(mut leveldb: Option<&mut Leveldb>) {
+    println!(
+        "\nlogs of 15 MiB: MB/s of records, and the ratio of the proved calls to each other way"
+    );
+    let leveldb_too: &[&str] = if leveldb.is_some() { &["LevelDB"] } else { &[] };
+    print!("{:>5} {:>7} {:>8}", "", "bytes", "proved");
+    for other in ["reference", "checksum"].iter().chain(leveldb_too) {
+        print!(" {other:>10} {:>6}", "ratio");
+    }
+    println!();
+    for length in [100, 1 << 10, 8 << 10, 100 << 10] {
+        let sample = Sample::new(length);
+        sample.compare(leveldb.as_deref_mut());
+        sample.print_line("write", sample.writing(), leveldb.as_deref_mut());
+        sample.print_line("read", sample.reading(), leveldb.as_deref_mut());
+    }
+}
+
+/// Records of one length, as many as go into a log, and the log of them.
+struct Sample {
+    record: Vec<u8>,
+    count: usize,
+    log: Vec<u8>,
+}
+
+impl Sample {
+    fn new(length: usize) -> Sample {
+        let record: Vec<u8> = (0..length).map(|i| (i * 7 + i / 251) as u8).collect();
+        let mut log = vec![0; LOG];
+        let (mut count, mut used) = (0, 0);
+        while let Some(mark) = proved_append(&mut log, used, &record) {
+            count += 1;
+            used = mark;
+        }
+        log.truncate(used);
+        Sample { record, count, log }
+    }
+
+    /// All must do the same work: the other ways write the same log.
+    fn compare(&self, leveldb: Option<&mut Leveldb>) {
+        let mut log = vec![0; self.log.len()];
+        self.write(&mut log, reference_append);
+        assert!(log == self.log, "the reference writes another log");
+        if let Some(leveldb) = leveldb {
+            let log = leveldb.log(self.record.len(), self.count);
+            assert!(log == self.log, "LevelDB writes another log");
+        }
+    }
+
+    fn writing(&self) -> Vec<Way<'_>> {
+        let way = |append: Append| -> Way {
+            let mut log = vec![0; LOG];
+            Box::new(timed(move || self.write(&mut log, append)))
+        };
+        vec![way(proved_append), way(reference_append), self.summing()]
+    }
+
+    fn reading(&self) -> Vec<Way<'_>> {
+        let way = |next: Read| -> Way {
+            let mut buffer = vec![0; LONGEST_RECORD];
+            Box::new(timed(move || self.read(&mut buffer, next)))
+        };
+        vec![way(proved_next), way(reference_next), self.summing()]
+    }
+
+    /// The checksum of each record and nothing else.
+    fn summing(&self) -> Way<'_> {
+        Box::new(timed(|| {
+            for _ in 0..self.count {
+                black_box(mellansko::crc32c(black_box(&self.record)));
+            }
+        }))
+    }
+
+    fn write(&self, log: &mut [u8], append: Append) {
+        let mut mark = 0;
+        for _ in 0..self.count {
+            mark = append(log, mark, black_box(&self.record)).expect("room for the record");
+        }
+    }
+
+    fn read(&self, buffer: &mut [u8], next: Read) {
+        let (mut count, mut place) = (0, 0);
+        while let Some(end) = next(black_box(&self.log), place, buffer) {
+            count += 1;
+            place = end;
+        }
+        assert_eq!((count, place), (self.count, self.log.len()));
+    }
+
+    /// The times of the ways and, where it is there, of LevelDB, as one line.
+    fn print_line<'a>(
+        &self,
+        what: &'a str,
+        mut ways: Vec<Way<'a>>,
+        leveldb: Option<&'a mut Leveldb>,
+    ) {
+        let (length, count) = (self.record.len(), self.count);
+        if let Some(leveldb) = leveldb {
+            ways.push(Box::new(move || leveldb.time(what, length, count)));
+        }
+        let times = best(ROUNDS, &mut ways);
+        let mut rates = times.into_iter().map(|time| rate(length * count, time));
+        let proved = rates.next().expect("the proved way is the first");
+        print!("{what:>5} {length:>7} {proved:>8.1}");
+        for other in rates {
+            print!(" {other:>10.1} {:>6.2}", proved / other);
+        }
+        println!();
+    }
+}
+
+fn proved_append(log: &mut [u8], mark: usize, record: &[u8]) -> Option<usize> {
+    let [answer, mark, ..] = mellansko::append(log, mark, record);
+    (answer == 0).then_some(mark as usize)
+}
+
+fn reference_append(log: &mut [u8], mark: usize, record: &[u8]) -> Option<usize> {
+    match reference::log::append(log, mark, record) {
+        Appended::Mark(mark) => Some(mark),
+        Appended::Refused { .. } => None,
+    }
+}
+
+fn proved_next(log: &[u8], place: usize, buffer: &mut [u8]) -> Option<usize> {
+    let [answer, _, end, ..] = mellansko::next(log, place, LONGEST_RECORD, buffer);
+    (answer == 0).then_some(end as usize)
+}
+
+fn reference_next(log: &[u8], place: usize, buffer: &mut [u8]) -> Option<usize> {
+    match reference::log::next(log, place, LONGEST_RECORD, buffer) {
+        Next::Record { end, .. } => Some(end),
+        _ => None,
+    }
+}
