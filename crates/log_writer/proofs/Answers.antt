@@ -14,7 +14,7 @@ use Rattle.log_format.specs.Format.Calls.{refusal, Append, overwrite, appendBy,
 use Rattle.log_format.specs.Laws.Spelling.{pad-left, body-size, size-long}
 use Rattle.log_format.specs.Laws.Appends.{writer-fits}
 use Rattle.log_writer.specs.Spelling.{spelling}
-use Rattle.log_writer.proofs.Overwrite.{overwrite-length, overwrite-more}
+use Rattle.log_format.specs.Laws.Overwrite.{overwrite-length, overwrite-more}
 
 -- an append gives the answer a and leaves l
 abbrev Gives : Append → Appended → List ℕ → Type 0

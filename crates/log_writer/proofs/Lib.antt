@@ -1,4 +1,3 @@
-pub mod Overwrite
 pub mod Sizes
 pub mod Refusals
 pub mod Zeros

@@ -1,0 +1,14 @@
+-- Number by number. Assumes nothing.
+use mathlib.Core.Path.{refl}
+use borrow.Author.Needs.{needs}
+use Rattle.mellansko.proofs.numbers.refused.Statement.{statement}
+use Rattle.mellansko.proofs.numbers.refused.Tie as tie
+
+cast-t3 : tie.Need-cast-t3
+cast-t3 c = search needs
+
+returns : tie.Need-returns
+returns c = refl
+
+pub refused-spec : {M : Type 1} → statement M
+refused-spec = tie.close (tie.spec cast-t3 returns)
