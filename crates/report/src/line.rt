@@ -1,0 +1,93 @@
+// The lines of a program's output.
+use crc32c::Crc32c;
+use libc::STDOUT_FILENO;
+use log_format::Appended;
+use log_format::Next;
+use log_format::Record;
+use log_format::Refusal;
+use log_format::Skip;
+use log_format::Stored;
+use log_format::Tail;
+
+pub fn title(words: &[u8]) {
+    text(b"# ");
+    text(words);
+    text(b"\n");
+}
+
+pub fn appended(length: usize, mark: usize, answer: Appended) {
+    number(b"append ", length);
+    number(b" bytes at ", mark);
+    match answer {
+        Appended::Mark(end) => number(b": mark ", end),
+        Appended::Refused(refusal) => refused(b": refused ", refusal),
+    }
+    text(b"\n");
+}
+
+// bytes: those that were asked for with the answer.
+pub fn next(answer: Next, bytes: &[u8]) {
+    match answer {
+        Next::Record(record) => handed(record, bytes),
+        Next::Skip(skip) => skipped(skip),
+        Next::End(tail) => end(tail),
+        Next::Refused(refusal) => {
+            refused(b"refused ", refusal);
+            text(b"\n");
+        }
+    }
+}
+
+pub fn asked(bytes: &[u8]) {
+    number(b"bytes ", bytes.len());
+    sum(b"", bytes);
+}
+
+// The checksum of bytes, behind what they are.
+pub fn sum(name: &[u8], bytes: &[u8]) {
+    text(name);
+    text(b" crc32c ");
+    io::print_hex(STDOUT_FILENO, Crc32c::of(bytes) as u64, 8);
+    text(b"\n");
+}
+
+fn handed(record: Record, bytes: &[u8]) {
+    number(b"record ", record.start);
+    number(b" ", record.end);
+    number(b" ", record.length);
+    let stored = record.stored;
+    match stored {
+        Stored::Whole(place) => number(b" whole ", place),
+        Stored::Gathered => text(b" gathered"),
+    }
+    sum(b"", bytes);
+}
+
+fn skipped(skip: Skip) {
+    number(b"skip ", skip.start);
+    number(b" ", skip.end);
+    number(b" ", skip.reason as usize);
+    text(b"\n");
+}
+
+fn end(tail: Tail) {
+    match tail {
+        Tail::Clean => text(b"end clean"),
+        Tail::Torn(place) => number(b"end torn ", place),
+    }
+    text(b"\n");
+}
+
+fn refused(words: &[u8], refusal: Refusal) {
+    number(words, refusal.number as usize);
+    number(b" ", refusal.given);
+}
+
+fn number(words: &[u8], n: usize) {
+    text(words);
+    io::print_decimal(STDOUT_FILENO, n as u64);
+}
+
+fn text(words: &[u8]) {
+    io::write_all(STDOUT_FILENO, words);
+}
