@@ -230,3 +230,12 @@ fn read(log: &[u8], limit: usize) -> Vec<(Next, Vec<u8>)> {
         place = answer.place_after(log);
     }
 }
+
+/// The proved programs are held to these outputs, so they must be the ones that this crate makes.
+#[test]
+fn made_the_stored_outputs() {
+    let example = include_str!("../../../crates/run_example/stdout");
+    assert_eq!(example, reference::runs::example::listing());
+    let edges = include_str!("../../../crates/run_edges/stdout");
+    assert_eq!(edges, reference::runs::edges::listing());
+}
