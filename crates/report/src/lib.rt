@@ -16,10 +16,10 @@ pub struct Length;
 impl Length {
     pub const LOG: usize = 600_000;
 
-    // Room for a record that is one byte too long.
+    // Room for a record, and for a limit, that is one byte too long.
     pub const RECORD: usize = Record::LONGEST + 1;
 
-    pub const BUFFER: usize = Record::LONGEST;
+    pub const BUFFER: usize = Record::LONGEST + 1;
 }
 
 pub type LogArray = [u8; Length::LOG];

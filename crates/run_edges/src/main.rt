@@ -68,9 +68,9 @@ fn refused_readings(log: &mut LogArray, record: &mut RecordArray, buffer: &mut B
     // 2.
     report::next(log, 17, 18, 100, buffer, 100);
     report::next(log, 17, 17, 100, buffer, 100);
-    // 5, which holds with 6 here: the program has no longer buffer.
-    report::next(log, 17, 0, 262_145, buffer, 262_144);
-    report::next(log, 17, 0, 262_144, buffer, 262_144);
+    // 5.
+    report::next(log, 17, 0, 262_145, buffer, 262_145);
+    report::next(log, 17, 0, 262_144, buffer, 262_145);
     // 6.
     report::next(log, 17, 0, 100, buffer, 99);
     report::next(log, 17, 0, 100, buffer, 100);

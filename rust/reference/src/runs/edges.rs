@@ -54,9 +54,9 @@ fn refused_readings(run: &mut Run) {
     // 2.
     run.next(17, 18, 100, 100);
     run.next(17, 17, 100, 100);
-    // 5, which holds with 6 here: the program has no longer buffer.
-    run.next(17, 0, 262_145, 262_144);
-    run.next(17, 0, 262_144, 262_144);
+    // 5.
+    run.next(17, 0, 262_145, 262_145);
+    run.next(17, 0, 262_144, 262_145);
     // 6.
     run.next(17, 0, 100, 99);
     run.next(17, 0, 100, 100);
@@ -69,17 +69,17 @@ fn refused_readings(run: &mut Run) {
 fn block_ends(run: &mut Run) {
     run.scenario("7, 6 and 0 bytes left in a block, an empty record and one of a byte");
     run.append(600_000, 32_761, 1, 0);
-    run.next(600_000, 32_761, 100, 262_144);
+    run.next(600_000, 32_761, 100, 262_145);
     run.append(600_000, 65_529, 2, 1);
-    run.next(600_000, 65_529, 100, 262_144);
+    run.next(600_000, 65_529, 100, 262_145);
     run.append(600_000, 98_298, 3, 0);
-    run.next(600_000, 98_298, 100, 262_144);
+    run.next(600_000, 98_298, 100, 262_145);
     run.append(600_000, 131_066, 4, 1);
-    run.next(600_000, 131_066, 100, 262_144);
+    run.next(600_000, 131_066, 100, 262_145);
     run.append(600_000, 163_840, 5, 0);
-    run.next(600_000, 163_840, 100, 262_144);
+    run.next(600_000, 163_840, 100, 262_145);
     run.append(600_000, 196_608, 6, 1);
-    run.next(600_000, 196_608, 100, 262_144);
+    run.next(600_000, 196_608, 100, 262_145);
     run.sums(600_000);
 }
 

@@ -11,7 +11,7 @@ use std::fmt::{Display, Write};
 /// The lengths of the arrays that a program has. Of the log and the buffer it lends parts.
 const LOG: usize = 600_000;
 const RECORD: usize = 262_145;
-const BUFFER: usize = 262_144;
+const BUFFER: usize = 262_145;
 
 /// What log and buffer are filled with, so that bytes that a call left alone can be seen.
 const LOG_FILL: u8 = 0xA5;
