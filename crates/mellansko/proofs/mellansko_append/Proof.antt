@@ -1,9 +1,9 @@
 -- The numbers of what the append answers. Assumes nothing.
+use mathlib.Core.Path.{ap, _∙_}
 use borrow.Author.Needs.{needs}
+use Rattle.log_format.specs.Format.Numbers.{appendedNumbers}
 use Rattle.mellansko.proofs.mellansko_append.Statement.{statement}
 use Rattle.mellansko.proofs.mellansko_append.Tie as tie
-use mathlib.Core.Path.{ap, _∙_}
-use Rattle.log_format.specs.Format.Numbers.{appendedNumbers}
 
 append-requires : tie.Need-append-requires
 append-requires c κs = search needs

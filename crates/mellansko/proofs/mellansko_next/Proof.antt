@@ -1,10 +1,10 @@
 -- The numbers of what the reading answers. Assumes nothing.
+use mathlib.Core.Path.{ap, _∙_}
 use borrow.Author.Needs.{needs}
+use lib.ListN.{length}
+use Rattle.log_format.specs.Format.Numbers.{nextNumbers}
 use Rattle.mellansko.proofs.mellansko_next.Statement.{statement}
 use Rattle.mellansko.proofs.mellansko_next.Tie as tie
-use mathlib.Core.Path.{ap, _∙_}
-use Rattle.log_format.specs.Format.Numbers.{nextNumbers}
-use lib.ListN.{length}
 
 next-requires : tie.Need-next-requires
 next-requires c κs = search needs

@@ -1,9 +1,9 @@
 -- Case by case. Assumes nothing.
+use mathlib.Core.Path.{sym, ap, _∙_}
 use borrow.Author.Needs.{needs}
+use Rattle.log_format.specs.Format.Numbers.{appendedNumbers}
 use Rattle.mellansko.proofs.numbers.appended.Statement.{statement}
 use Rattle.mellansko.proofs.numbers.appended.Tie as tie
-use mathlib.Core.Path.{sym, ap, _∙_}
-use Rattle.log_format.specs.Format.Numbers.{appendedNumbers}
 
 enum-known-answer : tie.Need-enum-known-answer
 enum-known-answer c = search needs

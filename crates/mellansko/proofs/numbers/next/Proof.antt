@@ -1,10 +1,10 @@
 -- Case by case. Assumes nothing.
-use borrow.Author.Needs.{needs}
-use Rattle.mellansko.proofs.numbers.next.Statement.{statement}
-use Rattle.mellansko.proofs.numbers.next.Tie as tie
 use mathlib.Core.Path.{sym, ap, _∙_}
+use borrow.Author.Needs.{needs}
 use Rattle.log_format.specs.Format.Numbers.{nextNumbers}
 use Rattle.log_format.specs.declared.Next.the-variants as N
+use Rattle.mellansko.proofs.numbers.next.Statement.{statement}
+use Rattle.mellansko.proofs.numbers.next.Tie as tie
 
 enum-known-answer : tie.Need-enum-known-answer
 enum-known-answer c = search needs
