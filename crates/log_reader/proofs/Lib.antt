@@ -1,8 +1,5 @@
 pub mod Copying
-pub mod Fields
 pub mod Gathering
-pub mod Judging
-pub mod Looks
 pub mod Parts
 pub mod Scanning
 pub mod Stepping
