@@ -141,7 +141,7 @@ fn the_table_of_two_rows() {
     }
 }
 
-/// The same with a limit that is one lower: "instead of hand out, open or extend".
+/// The same with a limit that is one lower: reason 7 where the table has hand out, open or extend.
 #[test]
 fn over_the_limit() {
     let rows = [
@@ -159,7 +159,7 @@ fn over_the_limit() {
     }
 }
 
-/// "Where reason 1, 2 or 3 arises with a record open, reason 4 is answered first."
+/// "Where reason 1, 2 or 3 arises with a record open, reason 4 is answered first"
 #[test]
 fn interrupted_before_bad() {
     let first = fragment(2, &[7; 2]);

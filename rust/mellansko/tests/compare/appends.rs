@@ -56,9 +56,10 @@ fn comes_back(c: &mut Comparison, log: &Lent, records: &[Vec<u8>]) {
     let mut answers = c.read(log, limit, &mut buffer);
     let end = answers.pop().map(|(answer, _)| answer);
     assert_eq!(end, Some(Next::End(Tail::Clean)), "{}", c.name("end"));
-    let read: Vec<&Vec<u8>> = answers.iter().map(|(_, bytes)| bytes).collect();
-    let same = read.iter().copied().eq(records);
-    assert!(same, "{}", c.name("records as written"));
+    let handed_out = |answer: &Next| matches!(answer, Next::Record { .. });
+    let all = answers.iter().all(|(answer, _)| handed_out(answer));
+    let same = answers.iter().map(|(_, bytes)| bytes).eq(records);
+    assert!(all && same, "{}", c.name("records as written"));
     let lower = c.random.below(longest + 1);
     c.read(log, lower, &mut buffer);
 }

@@ -1,5 +1,6 @@
 //! Calls under test against the reference. Each call is made to both, on copies of the same bytes;
-//! the answers, the bytes asked for, and every lent byte and those around it must be the same.
+//! the answers, the bytes that an answer's words lead to, and every lent byte and those around it
+//! must be the same.
 
 mod appends;
 mod cuts;
@@ -15,7 +16,8 @@ use crate::random::Random;
 use lent::Lent;
 use reference::log::{append, next, record_bytes, Appended, Next, HEADER, LONGEST_RECORD};
 
-/// The calls under test. Their answers are the ten words of the C interface.
+/// The calls under test. Their answers are the ten words of the C interface. A trait, so that wrong
+/// calls can stand in to see that the comparison notices them.
 pub trait Calls {
     fn append(&self, log: &mut [u8], mark: usize, record: &[u8]) -> [u64; 10];
     fn next(&self, log: &[u8], place: usize, limit: usize, buffer: &mut [u8]) -> [u64; 10];
@@ -29,6 +31,8 @@ pub fn everything(calls: &dyn Calls) -> usize {
         part: "",
         made: 0,
     };
+    // Shown where the test fails, wherever that is.
+    println!("{}", comparison.random);
     let parts: [(&str, Part); 6] = [
         ("refusals", refusals::all),
         ("sizes", sizes::all),
@@ -115,7 +119,7 @@ impl Comparison<'_> {
                 Next::End(_) | Next::Refused { .. } => break,
             }
         }
-        // "A log of N bytes is finished in at most N/7 (rounded down) + 1 calls."
+        // "a log of N bytes is finished in at most N/7 (rounded down) + 1 calls"
         let most = log.len() / HEADER + 1;
         assert!(answers.len() <= most, "{}", self.name("calls of a reading"));
         answers
