@@ -94,7 +94,7 @@ fn block_ends(log: &mut LogArray, record: &mut RecordArray, buffer: &mut BufferA
     report::sums(log, 600_000, buffer);
 }
 
-// An append at a mark with so many bytes left in its block, and the reading of what it added.
+// An append at a mark near its block's end, and the reading of what it added.
 fn append_and_read(
     log: &mut LogArray,
     mark: usize,
