@@ -1,33 +1,87 @@
-//! Has the toolchain prove the library and write its archive, and links that.
+//! Links the archive of the proved calls. Where it is missing or older than its sources, the
+//! toolchain proves them and writes it first.
 
-use std::path::Path;
-use std::process::Command;
+use std::path::{Path, PathBuf};
+use std::process::{exit, Command};
+use std::time::SystemTime;
+use std::{env, fs, io};
 
 fn main() {
-    let root = Path::new(env!("CARGO_MANIFEST_DIR"))
-        .join("../..")
-        .canonicalize()
-        .expect("the repository's folder");
-    for source in ["crates", "crates.txt"] {
-        println!("cargo:rerun-if-changed={}", root.join(source).display());
+    if let Err(message) = link() {
+        eprintln!("{message}");
+        exit(1);
     }
+}
+
+fn link() -> Result<(), String> {
+    let root = Path::new(env!("CARGO_MANIFEST_DIR")).join("../..");
+    let root = found(root.canonicalize(), &root)?;
+    let sources = ["crates", "crates.txt"].map(|source| root.join(source));
+    for source in &sources {
+        println!("cargo:rerun-if-changed={}", source.display());
+    }
+    let archive = root.join("target/staticlib/libmellansko.a");
+    if !is_newer(&archive, &sources)? {
+        make(&root)?;
+    }
+    // A copy of cargo's own, since `rt ci` removes what the toolchain wrote.
+    let folder = PathBuf::from(env::var_os("OUT_DIR").ok_or("cargo sets OUT_DIR")?);
+    let copy = folder.join("libmellansko.a");
+    found(fs::copy(&archive, &copy), &archive)?;
+    println!("cargo:rustc-link-search=native={}", folder.display());
+    println!("cargo:rustc-link-lib=static=mellansko");
+    // For the tests that link it to C.
+    println!("cargo:rustc-env=MELLANSKO_ARCHIVE={}", copy.display());
+    Ok(())
+}
+
+/// Whether the archive is there and no source has changed since it was written.
+fn is_newer(archive: &Path, sources: &[PathBuf]) -> Result<bool, String> {
+    let Ok(written) = fs::metadata(archive).and_then(|archive| archive.modified()) else {
+        return Ok(false);
+    };
+    for source in sources {
+        if last_change(source)? >= written {
+            return Ok(false);
+        }
+    }
+    Ok(true)
+}
+
+/// When a file, or the folder or any file in it, was last changed.
+fn last_change(path: &Path) -> Result<SystemTime, String> {
+    let metadata = found(fs::metadata(path), path)?;
+    let mut last = found(metadata.modified(), path)?;
+    if metadata.is_dir() {
+        for entry in found(fs::read_dir(path), path)? {
+            last = last.max(last_change(&found(entry, path)?.path())?);
+        }
+    }
+    Ok(last)
+}
+
+fn make(root: &Path) -> Result<(), String> {
     let run = Command::new("rt")
         .args(["staticlib", "mellansko"])
-        .current_dir(&root)
-        .output();
-    let run = run.unwrap_or_else(|error| {
-        panic!("the archive is made by the Rattle toolchain's command `rt`, which did not start ({error}): put it on the PATH")
-    });
-    if !run.status.success() {
-        panic!(
-            "`rt staticlib mellansko` failed:\n{}{}",
-            String::from_utf8_lossy(&run.stdout),
-            String::from_utf8_lossy(&run.stderr)
-        );
+        .current_dir(root)
+        .output()
+        .map_err(|error| {
+            format!(
+                "mellansko: the proved library has to be built, and that takes the Rattle toolchain: its command `rt` did \
+                 not start ({error}). Install the toolchain, put `rt` on the PATH, and try again."
+            )
+        })?;
+    if run.status.success() {
+        return Ok(());
     }
-    println!(
-        "cargo:rustc-link-search=native={}",
-        root.join("target/staticlib").display()
-    );
-    println!("cargo:rustc-link-lib=static=mellansko");
+    let said = [run.stdout, run.stderr].concat();
+    Err(format!(
+        "mellansko: `rt staticlib mellansko` failed in {}:\n{}",
+        root.display(),
+        String::from_utf8_lossy(&said)
+    ))
+}
+
+fn found<T>(result: io::Result<T>, path: &Path) -> Result<T, String> {
+    result.map_err(|error| format!("mellansko: {}: {error}", path.display()))
 }

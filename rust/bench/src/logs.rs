@@ -130,8 +130,7 @@ impl Sample {
 }
 
 fn proved_append(log: &mut [u8], mark: usize, record: &[u8]) -> Option<usize> {
-    let [answer, mark, ..] = mellansko::append(log, mark, record);
-    (answer == 0).then_some(mark as usize)
+    mellansko::append(log, mark, record).ok()
 }
 
 fn reference_append(log: &mut [u8], mark: usize, record: &[u8]) -> Option<usize> {
@@ -142,8 +141,10 @@ fn reference_append(log: &mut [u8], mark: usize, record: &[u8]) -> Option<usize>
 }
 
 fn proved_next(log: &[u8], place: usize, buffer: &mut [u8]) -> Option<usize> {
-    let [answer, _, end, ..] = mellansko::next(log, place, LONGEST_RECORD, buffer);
-    (answer == 0).then_some(end as usize)
+    match mellansko::next(log, place, LONGEST_RECORD, buffer) {
+        Ok((mellansko::Next::Record(_), end)) => Some(end),
+        _ => None,
+    }
 }
 
 fn reference_next(log: &[u8], place: usize, buffer: &mut [u8]) -> Option<usize> {

@@ -1,90 +1,65 @@
-//! The proved calls, for Rust.
+//! The writer and the reader of journals in the LevelDB log format, proved in Rattle, for Rust.
+//!
+//! A journal is a run of bytes. [`append`] writes a record into one that is lent. [`Reading`] goes
+//! over one from its first byte to its end, and says of every byte whether it belongs to a record,
+//! to a range that is in doubt, or to a tail that is torn:
+//!
+//! ```
+//! use mellansko::{Answer, Reading, Reason, Tail};
+//!
+//! let mut journal = vec![0; 64];
+//! let mut used = 0;
+//! for record in ["LW10-1 0.9137", "LW11 0.8412"] {
+//!     used = mellansko::append(&mut journal, used, record.as_bytes())?;
+//! }
+//! journal.truncate(used);
+//!
+//! let mut records = Vec::new();
+//! for answer in Reading::of(&journal)? {
+//!     match answer {
+//!         Answer::Record { bytes, .. } => records.push(bytes),
+//!         Answer::Skip(skip) => panic!("in doubt: {skip}"),
+//!         Answer::End(tail) => assert_eq!(tail, Tail::Clean),
+//!     }
+//! }
+//! assert_eq!(records, [&b"LW10-1 0.9137"[..], b"LW11 0.8412"]);
+//!
+//! // With a byte changed, what can't be trusted is named, and nothing of it is handed out.
+//! journal[10] ^= 1;
+//! let Some(Answer::Skip(skip)) = Reading::of(&journal)?.next() else {
+//!     panic!("a changed byte went unnoticed");
+//! };
+//! assert_eq!((skip.start, skip.end, skip.reason), (0, 38, Reason::Checksum));
+//! assert_eq!(skip.to_string(), "0 to 38: the stored checksum is not that of the bytes");
+//! # Ok::<(), mellansko::Refusal>(())
+//! ```
+//!
+//! What the calls answer is proved for every input; `docs/PROOF.md` of the repository says where.
+//! This crate only puts the answers, ten numbers each, into types, and cuts a record's bytes out of
+//! the slice that its answer names. Nothing here can be made to do undefined things by safe code:
+//! the calls require nothing of their caller but slices that are such, which references are.
+
+mod answer;
+mod calls;
+pub mod numbers;
+mod reading;
+mod refusal;
+
+pub use answer::{Next, Reason, Record, Skip, Stored, Tail};
+pub use calls::{append, crc32c, mask, next};
+pub use reading::{Answer, Reading};
+pub use refusal::{Condition, Refusal};
+
+/// The bytes of a block. What is damaged in one block hides no record that lies in others.
+pub const BLOCK: usize = 32_768;
+
+/// The most bytes that a record has.
+pub const LONGEST_RECORD: usize = 262_144;
+
+/// The most bytes that a lent journal has.
+pub const LONGEST_LOG: usize = 16_777_216;
 
 // The examples of the README are run as tests.
 #[cfg(doctest)]
 #[doc = include_str!("../../../README.md")]
 struct Readme;
-
-extern "C" {
-    fn mellansko_crc32c(bytes: *const u8, bytes_len: usize) -> u32;
-    fn mellansko_mask(checksum: u32) -> u32;
-    fn mellansko_append(
-        log: *mut u8,
-        log_len: usize,
-        mark: usize,
-        record: *const u8,
-        record_len: usize,
-        answer: *mut u64,
-    );
-    fn mellansko_next(
-        log: *const u8,
-        log_len: usize,
-        place: usize,
-        limit: usize,
-        buffer: *mut u8,
-        buffer_len: usize,
-        answer: *mut u64,
-    );
-}
-
-/// The CRC32C of some bytes.
-pub fn crc32c(bytes: &[u8]) -> u32 {
-    // Safe: the call requires nothing, reads the slice alone and keeps nothing of it.
-    unsafe { mellansko_crc32c(bytes.as_ptr(), bytes.len()) }
-}
-
-/// The form in which a log stores a CRC32C.
-pub fn mask(checksum: u32) -> u32 {
-    // Safe: the call requires nothing.
-    unsafe { mellansko_mask(checksum) }
-}
-
-/// An answer's words before the call. It writes all ten; a word that it left out would show.
-const UNWRITTEN: [u64; 10] = [u64::MAX; 10];
-
-/// Writes a record into a log of which the bytes up to the mark are used. The answer's words, of
-/// which those that a case does not name are 0:
-///
-/// - accepted: 0, new mark;
-/// - refused: 1, number, mark given.
-pub fn append(log: &mut [u8], mark: usize, record: &[u8]) -> [u64; 10] {
-    let mut answer = UNWRITTEN;
-    // Safe: the call requires nothing, reads and writes the three slices alone and keeps nothing
-    // of them.
-    unsafe {
-        mellansko_append(
-            log.as_mut_ptr(),
-            log.len(),
-            mark,
-            record.as_ptr(),
-            record.len(),
-            answer.as_mut_ptr(),
-        );
-    }
-    answer
-}
-
-/// Reads the next thing in a log from a place on. The answer's words, of which those that a case
-/// does not name are 0:
-///
-/// - record: 0, start, end, length, 0 whole or 1 gathered, place of the first data byte if whole,
-///   place to go on from;
-/// - skip: 1, start, end, reason, 0, 0, place to go on from;
-/// - end: 2, 0 clean or 1 torn, the tail's start if torn, 0, 0, 0, place to go on from;
-/// - refused: 3, number, place given.
-pub fn next(log: &[u8], place: usize, limit: usize, buffer: &mut [u8]) -> [u64; 10] {
-    let mut answer = UNWRITTEN;
-    // Safe: as for `append`.
-    unsafe {
-        mellansko_next(
-            log.as_ptr(),
-            log.len(),
-            place,
-            limit,
-            buffer.as_mut_ptr(),
-            buffer.len(),
-            answer.as_mut_ptr(),
-        );
-    }
-    answer
-}

@@ -7,11 +7,11 @@ struct Proved;
 
 impl compare::Calls for Proved {
     fn append(&self, log: &mut [u8], mark: usize, record: &[u8]) -> [u64; 10] {
-        mellansko::append(log, mark, record)
+        mellansko::numbers::append(log, mark, record)
     }
 
     fn next(&self, log: &[u8], place: usize, limit: usize, buffer: &mut [u8]) -> [u64; 10] {
-        mellansko::next(log, place, limit, buffer)
+        mellansko::numbers::next(log, place, limit, buffer)
     }
 }
 

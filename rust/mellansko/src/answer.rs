@@ -1,0 +1,152 @@
+//! What the reader answers.
+
+use std::fmt;
+
+/// The next thing in a log.
+#[derive(Clone, Copy, Debug, PartialEq, Eq)]
+pub enum Next {
+    Record(Record),
+    Skip(Skip),
+    End(Tail),
+}
+
+/// A record, from its first header to its last fragment's end.
+#[derive(Clone, Copy, Debug, PartialEq, Eq)]
+pub struct Record {
+    pub start: usize,
+    /// Exclusive.
+    pub end: usize,
+    /// How many bytes the record itself has, without headers.
+    pub length: usize,
+    pub stored: Stored,
+}
+
+/// Where a record's bytes are.
+#[derive(Clone, Copy, Debug, PartialEq, Eq)]
+pub enum Stored {
+    /// In the log, from this place on.
+    Whole(usize),
+    /// At the front of the buffer, gathered from several fragments.
+    Gathered,
+}
+
+impl Record {
+    /// The record's bytes: a part of the log or of the buffer, never a copy. A gathered record's are
+    /// in the buffer until another call is lent it. Where they do not lie inside the slices given,
+    /// which are then not those that this record was read with, there are none.
+    ///
+    /// ```
+    /// use mellansko::Next;
+    ///
+    /// let mut log = [0; 12];
+    /// mellansko::append(&mut log, 0, b"LW10-")?;
+    /// let mut buffer = [0; 100];
+    /// let (Next::Record(record), _) = mellansko::next(&log, 0, 100, &mut buffer)? else {
+    ///     panic!("the record was lost");
+    /// };
+    /// assert_eq!(record.bytes(&log, &buffer), b"LW10-");
+    /// assert_eq!(record.bytes(&log[..11], &buffer), b"");
+    /// # Ok::<(), mellansko::Refusal>(())
+    /// ```
+    pub fn bytes<'a>(&self, log: &'a [u8], buffer: &'a [u8]) -> &'a [u8] {
+        let (slice, place) = match self.stored {
+            Stored::Whole(place) => (log, place),
+            Stored::Gathered => (buffer, 0),
+        };
+        slice
+            .get(place..)
+            .and_then(|from| from.get(..self.length))
+            .unwrap_or(&log[..0])
+    }
+}
+
+/// A range that is skipped, since its bytes can't be trusted. A program that needs all that was
+/// written must not go on as if they had never been there.
+#[derive(Clone, Copy, Debug, PartialEq, Eq)]
+pub struct Skip {
+    pub start: usize,
+    /// Exclusive.
+    pub end: usize,
+    pub reason: Reason,
+}
+
+/// The range and the reason in plain words.
+impl fmt::Display for Skip {
+    fn fmt(&self, f: &mut fmt::Formatter) -> fmt::Result {
+        write!(f, "{} to {}: {}", self.start, self.end, self.reason)
+    }
+}
+
+/// How a log ends.
+#[derive(Clone, Copy, Debug, PartialEq, Eq)]
+pub enum Tail {
+    /// After a record, a skipped range or a trailer.
+    Clean,
+    /// Inside a record or a header: from this place on something was begun and is not all there.
+    Torn(usize),
+}
+
+/// Why a range is skipped.
+#[derive(Clone, Copy, Debug, PartialEq, Eq, Hash)]
+#[non_exhaustive]
+pub enum Reason {
+    BadLength = 1,
+    Blank = 2,
+    Checksum = 3,
+    Interrupted = 4,
+    Orphan = 5,
+    UnknownType = 6,
+    OverLimit = 7,
+}
+
+impl Reason {
+    /// All reasons, in the order of their numbers.
+    pub const ALL: [Reason; 7] = [
+        Reason::BadLength,
+        Reason::Blank,
+        Reason::Checksum,
+        Reason::Interrupted,
+        Reason::Orphan,
+        Reason::UnknownType,
+        Reason::OverLimit,
+    ];
+
+    /// The reason's number, from 1 on.
+    pub fn number(self) -> u8 {
+        self as u8
+    }
+
+    /// The reason's short name.
+    pub fn name(self) -> &'static str {
+        match self {
+            Reason::BadLength => "bad length",
+            Reason::Blank => "blank",
+            Reason::Checksum => "checksum",
+            Reason::Interrupted => "interrupted",
+            Reason::Orphan => "orphan",
+            Reason::UnknownType => "unknown type",
+            Reason::OverLimit => "over the limit",
+        }
+    }
+}
+
+/// The reason in plain words.
+///
+/// ```
+/// use mellansko::Reason;
+///
+/// assert_eq!(Reason::Orphan.to_string(), "a piece of a record whose beginning is missing");
+/// ```
+impl fmt::Display for Reason {
+    fn fmt(&self, f: &mut fmt::Formatter) -> fmt::Result {
+        f.write_str(match self {
+            Reason::BadLength => "a stored length runs past the end of its block",
+            Reason::Blank => "zeros where a record should be",
+            Reason::Checksum => "the stored checksum is not that of the bytes",
+            Reason::Interrupted => "a record that breaks off before its last piece",
+            Reason::Orphan => "a piece of a record whose beginning is missing",
+            Reason::UnknownType => "a piece of a kind that this format does not have",
+            Reason::OverLimit => "a record longer than the limit",
+        })
+    }
+}

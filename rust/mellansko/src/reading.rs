@@ -1,0 +1,132 @@
+//! A log read from its first byte to its end.
+
+use crate::{next, Next, Record, Refusal, Skip, Stored, Tail, LONGEST_RECORD};
+use std::borrow::Cow;
+use std::iter::FusedIterator;
+
+/// The answers of a log from place 0 on, in order; the last is its end. Their ranges lie one behind
+/// the other, with at most a trailer of up to six bytes between two.
+///
+/// As an iterator it hands out records with bytes of their own where they had to be gathered;
+/// [`advance`](Reading::advance) lends them instead.
+pub struct Reading<'log> {
+    log: &'log [u8],
+    limit: usize,
+    place: usize,
+    buffer: Vec<u8>,
+    ended: bool,
+}
+
+/// What a [`Reading`] gives.
+#[derive(Clone, Debug, PartialEq, Eq)]
+pub enum Answer<'a> {
+    Record {
+        record: Record,
+        bytes: Cow<'a, [u8]>,
+    },
+    Skip(Skip),
+    End(Tail),
+}
+
+impl<'log> Reading<'log> {
+    /// Reads a log with the highest limit there is on a record's length.
+    pub fn of(log: &'log [u8]) -> Result<Reading<'log>, Refusal> {
+        Reading::with_limit(log, LONGEST_RECORD)
+    }
+
+    /// Reads a log and skips records of more bytes than the limit.
+    ///
+    /// ```
+    /// use mellansko::{Condition, Reading};
+    ///
+    /// let refusal = Reading::with_limit(&[], 262_145).err().unwrap();
+    /// assert_eq!(refusal.condition, Condition::LimitTooHigh);
+    /// ```
+    pub fn with_limit(log: &'log [u8], limit: usize) -> Result<Reading<'log>, Refusal> {
+        // A limit above the highest is refused whatever the buffer has.
+        let mut buffer = vec![0; limit.min(LONGEST_RECORD)];
+        // What is refused at the log's end, with nothing to read, is refused at every place; what is
+        // not, at none.
+        next(log, log.len(), limit, &mut buffer).map_err(|refusal| Refusal {
+            given: 0,
+            ..refusal
+        })?;
+        Ok(Reading {
+            log,
+            limit,
+            place: 0,
+            buffer,
+            ended: false,
+        })
+    }
+
+    /// The place to go on from: every byte before it has been answered for.
+    pub fn place(&self) -> usize {
+        self.place
+    }
+
+    /// The next answer, with the bytes of a record lent until the next call: nothing is copied but
+    /// into the one buffer. After the end there is none.
+    ///
+    /// ```
+    /// use mellansko::{Answer, Reading};
+    ///
+    /// // Two records of 40,000 bytes, each of which runs across a block's end.
+    /// let mut log = vec![0; 81_000];
+    /// let mark = mellansko::append(&mut log, 0, &[1; 40_000])?;
+    /// let mark = mellansko::append(&mut log, mark, &[2; 40_000])?;
+    /// let mut reading = Reading::of(&log[..mark])?;
+    /// let mut sum = 0;
+    /// while let Some(answer) = reading.advance() {
+    ///     if let Answer::Record { bytes, .. } = answer {
+    ///         sum += bytes.iter().map(|&byte| u32::from(byte)).sum::<u32>();
+    ///     }
+    /// }
+    /// assert_eq!(sum, 120_000);
+    /// # Ok::<(), mellansko::Refusal>(())
+    /// ```
+    pub fn advance(&mut self) -> Option<Answer<'_>> {
+        let next = self.step()?;
+        Some(Answer::new(next, |record| {
+            Cow::Borrowed(record.bytes(self.log, &self.buffer))
+        }))
+    }
+
+    fn step(&mut self) -> Option<Next> {
+        if self.ended {
+            return None;
+        }
+        let (answer, place) = next(self.log, self.place, self.limit, &mut self.buffer)
+            .expect("no refusal, as at the beginning");
+        self.place = place;
+        self.ended = matches!(answer, Next::End(_));
+        Some(answer)
+    }
+}
+
+impl<'log> Iterator for Reading<'log> {
+    type Item = Answer<'log>;
+
+    fn next(&mut self) -> Option<Answer<'log>> {
+        let next = self.step()?;
+        Some(Answer::new(next, |record| match record.stored {
+            Stored::Whole(_) => Cow::Borrowed(record.bytes(self.log, &[])),
+            Stored::Gathered => Cow::Owned(record.bytes(&[], &self.buffer).to_vec()),
+        }))
+    }
+}
+
+impl FusedIterator for Reading<'_> {}
+
+impl<'a> Answer<'a> {
+    fn new(next: Next, bytes: impl FnOnce(&Record) -> Cow<'a, [u8]>) -> Answer<'a> {
+        match next {
+            Next::Record(record) => Answer::Record {
+                record,
+                bytes: bytes(&record),
+            },
+            Next::Skip(skip) => Answer::Skip(skip),
+            Next::End(tail) => Answer::End(tail),
+        }
+    }
+}

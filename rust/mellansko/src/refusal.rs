@@ -1,0 +1,68 @@
+//! When a call does nothing.
+
+use crate::{LONGEST_LOG, LONGEST_RECORD};
+use std::error::Error;
+use std::fmt;
+
+/// Why a call did nothing. No lent byte has changed.
+#[derive(Clone, Copy, Debug, PartialEq, Eq)]
+pub struct Refusal {
+    pub condition: Condition,
+    /// The mark or place that the call was given.
+    pub given: usize,
+}
+
+/// The conditions on which a call is refused. Where several hold, the one with the lowest number is
+/// given.
+#[derive(Clone, Copy, Debug, PartialEq, Eq, Hash)]
+#[non_exhaustive]
+pub enum Condition {
+    LogTooLong = 1,
+    Outside = 2,
+    RecordTooLong = 3,
+    NoRoom = 4,
+    LimitTooHigh = 5,
+    BufferTooShort = 6,
+}
+
+impl Condition {
+    /// All conditions, in the order of their numbers.
+    pub const ALL: [Condition; 6] = [
+        Condition::LogTooLong,
+        Condition::Outside,
+        Condition::RecordTooLong,
+        Condition::NoRoom,
+        Condition::LimitTooHigh,
+        Condition::BufferTooShort,
+    ];
+
+    /// The condition's number, from 1 on.
+    pub fn number(self) -> u8 {
+        self as u8
+    }
+}
+
+/// The condition in plain words.
+///
+/// ```
+/// let refusal = mellansko::append(&mut [0; 10], 4, b"LW10-1").unwrap_err();
+/// assert_eq!(refusal.condition.number(), 4);
+/// assert_eq!(refusal.to_string(), "the log has no room for the record at mark 4");
+/// ```
+impl fmt::Display for Refusal {
+    fn fmt(&self, f: &mut fmt::Formatter) -> fmt::Result {
+        let given = self.given;
+        match self.condition {
+            Condition::LogTooLong => write!(f, "the log is longer than {LONGEST_LOG} bytes"),
+            Condition::Outside => write!(f, "mark or place {given} is beyond the log's end"),
+            Condition::RecordTooLong => {
+                write!(f, "the record is longer than {LONGEST_RECORD} bytes")
+            }
+            Condition::NoRoom => write!(f, "the log has no room for the record at mark {given}"),
+            Condition::LimitTooHigh => write!(f, "the limit is above {LONGEST_RECORD} bytes"),
+            Condition::BufferTooShort => write!(f, "the buffer is shorter than the limit"),
+        }
+    }
+}
+
+impl Error for Refusal {}
