@@ -1,0 +1,13 @@
+//! The commands, one a file.
+
+mod append;
+mod cat;
+mod dump;
+mod map;
+mod verify;
+
+pub use append::append;
+pub use cat::cat;
+pub use dump::dump;
+pub use map::{map, Colour};
+pub use verify::verify;

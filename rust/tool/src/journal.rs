@@ -1,0 +1,89 @@
+//! The bytes of a journal, from a file or from standard input.
+
+use crate::progress::Progress;
+use crate::trouble::Trouble;
+use crate::words::{bytes, grouped, shown};
+use mellansko::{Condition, Refusal, LONGEST_LOG, LONGEST_RECORD};
+use std::ffi::{OsStr, OsString};
+use std::fs::File;
+use std::io::{self, Read};
+
+/// Where a journal comes from.
+pub enum Source {
+    File(OsString),
+    StandardInput,
+}
+
+impl Source {
+    pub fn name(&self) -> &OsStr {
+        match self {
+            Source::File(path) => path,
+            Source::StandardInput => OsStr::new("standard input"),
+        }
+    }
+
+    /// All of it; of one that is too long, one byte more than a journal may have, at which the
+    /// proved calls refuse it.
+    pub fn read(&self, progress: &mut Progress) -> Result<Vec<u8>, Trouble> {
+        match self {
+            Source::File(path) => {
+                File::open(path).and_then(|file| read(file, self.name(), LONGEST_LOG, progress))
+            }
+            Source::StandardInput => read(io::stdin().lock(), self.name(), LONGEST_LOG, progress),
+        }
+        .map_err(|error| Trouble::io(self.name(), "be read", &error))
+    }
+
+    /// The message for a journal that the reader refuses.
+    pub fn refused(&self, refusal: Refusal) -> Trouble {
+        refused(self.name(), refusal)
+    }
+}
+
+/// At most one byte more than so many.
+pub fn read(
+    from: impl Read,
+    name: &OsStr,
+    most: usize,
+    progress: &mut Progress,
+) -> io::Result<Vec<u8>> {
+    const PIECE: usize = 1 << 20;
+    let mut from = from.take(most as u64 + 1);
+    let mut all = Vec::new();
+    let mut used = 0;
+    loop {
+        all.resize(used + PIECE, 0);
+        match from.read(&mut all[used..]) {
+            Ok(0) => break,
+            Ok(more) => used += more,
+            Err(error) if error.kind() == io::ErrorKind::Interrupted => {}
+            Err(error) => return Err(error),
+        }
+        progress.show(|| format!("{}: {} read", shown(name), bytes(used)));
+    }
+    all.truncate(used);
+    Ok(all)
+}
+
+/// The message for what a proved call refuses.
+pub fn refused(name: &OsStr, refusal: Refusal) -> Trouble {
+    let (log, record) = (grouped(LONGEST_LOG), grouped(LONGEST_RECORD));
+    let (why, advice) = match refusal.condition {
+        Condition::LogTooLong => (
+            format!("longer than {log} bytes, the most that a journal may have"),
+            format!(". Nothing of it was judged; for what its beginning holds, run: head -c {LONGEST_LOG} FILE | mellansko verify -"),
+        ),
+        Condition::RecordTooLong => (
+            format!("nothing was appended: the record is longer than {record} bytes, the most that one may have"),
+            String::new(),
+        ),
+        Condition::NoRoom => (
+            format!("nothing was appended: with the record the journal would be longer than {log} bytes"),
+            ". Begin another: mellansko append --new OTHER-FILE".into(),
+        ),
+        Condition::LimitTooHigh => (format!("the highest limit is {record} bytes"), String::new()),
+        _ => (refusal.to_string(), String::new()),
+    };
+    let number = refusal.condition.number();
+    Trouble::of(name, &format!("{why} (refusal {number}){advice}"))
+}
