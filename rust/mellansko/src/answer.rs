@@ -101,7 +101,7 @@ pub enum Reason {
 
 impl Reason {
     /// All reasons, in the order of their numbers.
-    pub const ALL: [Reason; 7] = [
+    pub const ALL: &'static [Reason] = &[
         Reason::BadLength,
         Reason::Blank,
         Reason::Checksum,

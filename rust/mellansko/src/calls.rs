@@ -56,7 +56,7 @@ pub fn next(
         1 => Next::Skip(Skip {
             start: a,
             end: b,
-            reason: numbered(&Reason::ALL, &answer, 3),
+            reason: numbered(Reason::ALL, &answer, 3),
         }),
         2 => Next::End(match a {
             0 => Tail::Clean,
@@ -88,7 +88,7 @@ pub fn mask(crc: u32) -> u32 {
 
 fn refusal(answer: &Numbers) -> Refusal {
     Refusal {
-        condition: numbered(&Condition::ALL, answer, 1),
+        condition: numbered(Condition::ALL, answer, 1),
         given: answer[2] as usize,
     }
 }

@@ -39,6 +39,9 @@
 //! the slice that its answer names. Nothing here can be made to do undefined things by safe code:
 //! the calls require nothing of their caller but slices that are such, which references are.
 
+#[cfg(not(all(target_arch = "x86_64", target_os = "linux")))]
+compile_error!("the proved calls are compiled for Linux on x86-64 alone");
+
 mod answer;
 mod calls;
 pub mod numbers;

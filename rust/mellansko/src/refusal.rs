@@ -27,7 +27,7 @@ pub enum Condition {
 
 impl Condition {
     /// All conditions, in the order of their numbers.
-    pub const ALL: [Condition; 6] = [
+    pub const ALL: &'static [Condition] = &[
         Condition::LogTooLong,
         Condition::Outside,
         Condition::RecordTooLong,
