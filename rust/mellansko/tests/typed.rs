@@ -1,0 +1,222 @@
+//! The typed calls and the reading, beside the reference: every answer field by field, and the
+//! bytes that it leads to.
+
+mod expected;
+mod random;
+
+use expected::{appended, typed};
+use mellansko::{Answer, Condition, Next, Reading, Record, Refusal, Stored};
+use random::Random;
+use reference::log::{self, fragment, BLOCK, LONGEST_LOG, LONGEST_RECORD};
+use std::collections::BTreeSet;
+use std::ptr;
+
+#[test]
+fn on_logs_whole_cut_and_changed() {
+    let mut random = Random::new();
+    println!("{random}");
+    let mut reasons = BTreeSet::new();
+    // Nothing; empty records; across blocks; exactly 7 bytes left in a block, for an empty record
+    // and for another; trailers of 6 bytes and of 1.
+    let shapes: [&[usize]; 8] = [
+        &[],
+        &[0, 0, 0],
+        &[5, 40_000, 0, 9],
+        &[100_000, 20, 32_761],
+        &[BLOCK - 14, 0, 3],
+        &[BLOCK - 14, 1, 3],
+        &[BLOCK - 13, 0, 3],
+        &[BLOCK - 8, 40_000],
+    ];
+    let limits = [0, 4, 5, 39_999, 40_000, LONGEST_RECORD];
+    for shape in shapes {
+        let mut log = written(&mut random, shape);
+        for limit in limits {
+            read(&log, limit, &mut reasons);
+        }
+        for place in places(log.len(), &mut random) {
+            let limit = limits[random.below(limits.len())];
+            read(&log[..place], limit, &mut reasons);
+            if place < log.len() {
+                log[place] ^= 0xFF;
+                read(&log, limit, &mut reasons);
+                log[place] ^= 0xFF;
+            }
+        }
+    }
+    three_fragments(&mut random, &mut reasons);
+    assert!(reasons.into_iter().eq(1..=7), "not every reason came up");
+}
+
+/// Every three fragments in a row, of the four types and of others. One of type 0 is blank if empty.
+fn three_fragments(random: &mut Random, reasons: &mut BTreeSet<u8>) {
+    let kinds = [0, 1, 2, 3, 4, 5, 255];
+    for i in 0..kinds.len().pow(3) {
+        let three = [i / 49, i / 7 % 7, i % 7].map(|kind| {
+            let length = random.below(3);
+            fragment(kinds[kind], &random.bytes(length))
+        });
+        for limit in [0, 2, 6] {
+            read(&three.concat(), limit, reasons);
+        }
+    }
+}
+
+/// A log of records of these lengths, which both writers write.
+fn written(random: &mut Random, lengths: &[usize]) -> Vec<u8> {
+    let mut ours = vec![0xA5; lengths.iter().sum::<usize>() + 200];
+    let mut theirs = ours.clone();
+    let mut mark = 0;
+    for &length in lengths {
+        let record = random.bytes(length);
+        let expected = appended(log::append(&mut theirs, mark, &record));
+        assert_eq!(mellansko::append(&mut ours, mark, &record), expected);
+        assert!(ours == theirs, "{length} bytes at {mark}");
+        mark = expected.expect("room enough");
+    }
+    ours.truncate(mark);
+    ours
+}
+
+/// Places near the ends of blocks and of the log, and some others, up to the log's end.
+fn places(length: usize, random: &mut Random) -> Vec<usize> {
+    let ends = (0..length).step_by(BLOCK).chain([length]);
+    let near = ends.flat_map(|end| end.saturating_sub(8)..=(end + 8).min(length));
+    let others = (0..20).map(|_| random.below(length + 1));
+    near.chain(others).collect()
+}
+
+/// Reads a log to its end call by call, as an iterator and with `advance`. Notes the reasons.
+fn read(log: &[u8], limit: usize, reasons: &mut BTreeSet<u8>) {
+    let (mut ours, mut theirs) = (vec![0xA5; limit + 3], vec![0xA5; limit + 3]);
+    let [mut iterator, mut lending] = [(); 2].map(|()| Reading::with_limit(log, limit).unwrap());
+    let mut place = 0;
+    loop {
+        let call = format!("at {place} of {} with limit {limit}", log.len());
+        let answer = log::next(log, place, limit, &mut theirs);
+        let expected = typed(answer, log);
+        let got = mellansko::next(log, place, limit, &mut ours);
+        assert_eq!(got, expected, "{call}");
+        assert!(ours == theirs, "buffer, {call}");
+        let (next, on) = expected.expect("no refusal");
+        let bytes = log::record_bytes(log, &theirs, &answer);
+        if let Next::Record(record) = next {
+            assert!(record.bytes(log, &ours) == bytes, "bytes, {call}");
+        }
+        gives(iterator.next(), next, bytes, &call);
+        gives(lending.advance(), next, bytes, &call);
+        place = on;
+        assert_eq!([iterator.place(), lending.place()], [place; 2], "{call}");
+        match next {
+            Next::Record(_) => {}
+            Next::Skip(skip) => _ = reasons.insert(skip.reason.number()),
+            Next::End(_) => break,
+        }
+    }
+    for _ in 0..2 {
+        assert_eq!([iterator.next(), lending.advance()], [None, None]);
+        assert_eq!([iterator.place(), lending.place()], [place; 2]);
+    }
+}
+
+/// An answer of a reading, where a whole record's bytes are no copy of the log's.
+fn gives(answer: Option<Answer>, next: Next, bytes: &[u8], call: &str) {
+    let mut no_copy = true;
+    if let Some(Answer::Record {
+        record,
+        bytes: ours,
+    }) = &answer
+    {
+        no_copy = record.stored == Stored::Gathered || ptr::eq(&**ours, bytes);
+    }
+    let bytes = bytes.into();
+    let expected = match next {
+        Next::Record(record) => Answer::Record { record, bytes },
+        Next::Skip(skip) => Answer::Skip(skip),
+        Next::End(tail) => Answer::End(tail),
+    };
+    assert!(
+        no_copy && answer == Some(expected),
+        "reading, {call}: not {next:?}"
+    );
+}
+
+#[test]
+fn on_every_condition() {
+    let mut lent = vec![0; LONGEST_LOG + 1];
+    let mut refusals = Vec::new();
+    for length in [0, 6, 20, LONGEST_LOG, LONGEST_LOG + 1] {
+        let log = &mut lent[..length];
+        for place in [0, 13, 14, length, length + 1, usize::MAX] {
+            refused_appends(log, place, &mut refusals);
+            refused_readings(log, place, &mut refusals);
+        }
+        let refused = Reading::of(log).err().map(|refusal| refusal.condition);
+        assert_eq!(
+            refused,
+            (length > LONGEST_LOG).then_some(Condition::LogTooLong)
+        );
+    }
+    let numbers = refusals.iter().map(|refusal| refusal.condition.number());
+    let numbers: BTreeSet<u8> = numbers.collect();
+    assert!(numbers.into_iter().eq(1..=6), "not every condition came up");
+}
+
+fn refused_appends(log: &mut [u8], mark: usize, refusals: &mut Vec<Refusal>) {
+    let record = [7; LONGEST_RECORD + 1];
+    for length in [0, LONGEST_RECORD, LONGEST_RECORD + 1] {
+        let got = mellansko::append(log, mark, &record[..length]);
+        let expected = appended(log::append(log, mark, &record[..length]));
+        assert_eq!(got, expected, "{length} bytes at {mark} of {}", log.len());
+        refusals.extend(got.err());
+    }
+}
+
+fn refused_readings(log: &[u8], place: usize, refusals: &mut Vec<Refusal>) {
+    let mut buffer = [0; LONGEST_RECORD];
+    for limit in [0, 1, LONGEST_RECORD, LONGEST_RECORD + 1, usize::MAX] {
+        for room in [0, 1, LONGEST_RECORD - 1, LONGEST_RECORD] {
+            let got = mellansko::next(log, place, limit, &mut buffer[..room]);
+            let expected = typed(log::next(log, place, limit, &mut buffer[..room]), log);
+            assert_eq!(got, expected, "limit {limit} at {place} of {}", log.len());
+            refusals.extend(got.err());
+        }
+        let got = Reading::with_limit(log, limit).err();
+        let expected = typed(log::next(log, 0, limit, &mut buffer), log).err();
+        assert_eq!(got, expected, "limit {limit} for {}", log.len());
+    }
+}
+
+/// With slices that a record was not read with, and numbers that no call answers: its bytes lie in
+/// those slices, or are the first none of the log.
+#[test]
+fn on_records_of_other_slices() {
+    let bytes = [1; 20];
+    let slices = [0, 10, 20].map(|end| bytes.split_at(end));
+    let numbers = [0, 1, 9, 10, 11, 19, 20, 21, usize::MAX - 19, usize::MAX];
+    let whole = numbers.map(|place| (Stored::Whole(place), log::Stored::Whole(place)));
+    let gathered = [(Stored::Gathered, log::Stored::Gathered)];
+    let (start, end) = (0, 0);
+    for (ours, theirs) in whole.into_iter().chain(gathered) {
+        for length in numbers {
+            let stored = ours;
+            let record = Record {
+                start,
+                end,
+                length,
+                stored,
+            };
+            let stored = theirs;
+            let answer = log::Next::Record {
+                start,
+                end,
+                length,
+                stored,
+            };
+            for (log, buffer) in slices {
+                let expected = log::record_bytes(log, buffer, &answer);
+                assert!(ptr::eq(record.bytes(log, buffer), expected), "{record:?}");
+            }
+        }
+    }
+}
