@@ -2,6 +2,7 @@
 
 use crate::{next, Next, Record, Refusal, Skip, Stored, Tail, LONGEST_RECORD};
 use std::borrow::Cow;
+use std::fmt;
 use std::iter::FusedIterator;
 
 /// The answers of a log from place 0 on, in order; the last is its end. Their ranges lie one behind
@@ -39,7 +40,7 @@ impl<'log> Reading<'log> {
     /// ```
     /// use mellansko::{Condition, Reading};
     ///
-    /// let refusal = Reading::with_limit(&[], 262_145).err().unwrap();
+    /// let refusal = Reading::with_limit(&[], 262_145).unwrap_err();
     /// assert_eq!(refusal.condition, Condition::LimitTooHigh);
     /// ```
     pub fn with_limit(log: &'log [u8], limit: usize) -> Result<Reading<'log>, Refusal> {
@@ -117,6 +118,17 @@ impl<'log> Iterator for Reading<'log> {
 }
 
 impl FusedIterator for Reading<'_> {}
+
+/// Without the log's bytes, which may be many.
+impl fmt::Debug for Reading<'_> {
+    fn fmt(&self, f: &mut fmt::Formatter) -> fmt::Result {
+        f.debug_struct("Reading")
+            .field("place", &self.place)
+            .field("limit", &self.limit)
+            .field("ended", &self.ended)
+            .finish_non_exhaustive()
+    }
+}
 
 impl<'a> Answer<'a> {
     fn new(next: Next, bytes: impl FnOnce(&Record) -> Cow<'a, [u8]>) -> Answer<'a> {
