@@ -10,7 +10,8 @@ pub enum Next {
     End(Tail),
 }
 
-/// A record, from its first header to its last fragment's end.
+/// A record, from its first header to its last fragment's end. It is stored as one or more
+/// fragments, each a header of 7 bytes and then data, of which none crosses a block's end.
 #[derive(Clone, Copy, Debug, PartialEq, Eq)]
 pub struct Record {
     pub start: usize,
@@ -80,22 +81,34 @@ impl fmt::Display for Skip {
 /// How a log ends.
 #[derive(Clone, Copy, Debug, PartialEq, Eq)]
 pub enum Tail {
-    /// After a record, a skipped range or a trailer.
+    /// Nothing is begun and not finished. So ends a log that was cut between two records, too.
     Clean,
-    /// Inside a record or a header: from this place on something was begun and is not all there.
+    /// The log ends inside of what starts at this place. That may be a record that was being written.
+    /// But a damaged length in the last block looks the same, and then records that were written
+    /// whole lie in the tail: it must not be treated as never written.
     Torn(usize),
 }
 
-/// Why a range is skipped.
+/// Why a range is skipped. The first three range from a header to the end of the block or of the
+/// log, whichever is sooner, since the length may be the damaged part.
 #[derive(Clone, Copy, Debug, PartialEq, Eq, Hash)]
 #[non_exhaustive]
 pub enum Reason {
+    /// The header's length runs past the end of the block.
     BadLength = 1,
+    /// The header's type and length are both 0.
     Blank = 2,
+    /// The header's checksum is not that of its type and data.
     Checksum = 3,
+    /// A record that is begun and not finished, up to what stands where its next fragment should.
+    /// The next answer is for that.
     Interrupted = 4,
+    /// One fragment, which goes on with a record that is not begun.
     Orphan = 5,
+    /// One fragment, of a type that the format does not have.
     UnknownType = 6,
+    /// A record, up to the end of the fragment that takes it above the limit. Sound fragments of it
+    /// behind that one are orphans.
     OverLimit = 7,
 }
 

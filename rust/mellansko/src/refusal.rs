@@ -17,11 +17,18 @@ pub struct Refusal {
 #[derive(Clone, Copy, Debug, PartialEq, Eq, Hash)]
 #[non_exhaustive]
 pub enum Condition {
+    /// Writing or reading: the log has more than [`LONGEST_LOG`] bytes.
     LogTooLong = 1,
+    /// Writing or reading: the mark or place is above the log's length.
     Outside = 2,
+    /// Writing: the record has more than [`LONGEST_RECORD`] bytes.
     RecordTooLong = 3,
+    /// Writing: the record, with its headers and the trailer before it if there is one, needs more
+    /// bytes than the log has from the mark on.
     NoRoom = 4,
+    /// Reading: the limit is above [`LONGEST_RECORD`].
     LimitTooHigh = 5,
+    /// Reading: the buffer has fewer bytes than the limit.
     BufferTooShort = 6,
 }
 
