@@ -4,90 +4,17 @@
 //     log LENGTH COUNT      writes the records; a line with the log's length, then the log itself
 //     write LENGTH COUNT    writes the records; the nanoseconds that took
 //     read LENGTH COUNT     reads the log written last; the nanoseconds that took
-#include <leveldb/env.h>
-#include <leveldb/slice.h>
-#include <leveldb/status.h>
+#include "../interop/leveldb_log.h"
 
-#include <algorithm>
 #include <chrono>
-#include <cstdint>
 #include <cstdlib>
-#include <cstring>
 #include <iostream>
 #include <string>
 #include <vector>
 
-// The library has these two classes, but its headers do not. What is declared here is what their callers see; the storage is
-// for whatever they hold, with much to spare.
-namespace leveldb {
-namespace log {
-
-class Writer {
-  public:
-    explicit Writer(WritableFile* file);
-    ~Writer();
-    Status AddRecord(const Slice& record);
-
-  private:
-    alignas(16) char storage_[1024];
-};
-
-class Reader {
-  public:
-    class Reporter;
-    Reader(SequentialFile* file, Reporter* reporter, bool checksum, uint64_t initial_offset);
-    ~Reader();
-    bool ReadRecord(Slice* record, std::string* scratch);
-
-  private:
-    alignas(16) char storage_[1024];
-};
-
-}  // namespace log
-}  // namespace leveldb
-
 using leveldb::Slice;
-using leveldb::Status;
 
 namespace {
-
-// What is appended goes into an array that is there before.
-class Sink : public leveldb::WritableFile {
-  public:
-    explicit Sink(std::vector<char>* array) : array_(array), used_(0) {}
-    Status Append(const Slice& data) override {
-        if (data.size() > array_->size() - used_) return Status::IOError("the array is full");
-        std::memcpy(array_->data() + used_, data.data(), data.size());
-        used_ += data.size();
-        return Status::OK();
-    }
-    Status Close() override { return Status::OK(); }
-    Status Flush() override { return Status::OK(); }
-    Status Sync() override { return Status::OK(); }
-    size_t used() const { return used_; }
-
-  private:
-    std::vector<char>* array_;
-    size_t used_;
-};
-
-// Hands out parts of an array without a copy.
-class Source : public leveldb::SequentialFile {
-  public:
-    explicit Source(Slice bytes) : rest_(bytes) {}
-    Status Read(size_t n, Slice* result, char*) override {
-        *result = Slice(rest_.data(), std::min(n, rest_.size()));
-        rest_.remove_prefix(result->size());
-        return Status::OK();
-    }
-    Status Skip(uint64_t n) override {
-        rest_.remove_prefix(std::min<size_t>(n, rest_.size()));
-        return Status::OK();
-    }
-
-  private:
-    Slice rest_;
-};
 
 void require(bool holds, const char* what) {
     if (holds) return;
