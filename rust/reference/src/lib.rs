@@ -5,6 +5,7 @@
 mod crc32c;
 pub mod log;
 pub mod runs;
+pub mod samples;
 pub mod vectors;
 
 pub use crc32c::{crc32c, crc32c_by_bytes, mask};
