@@ -133,7 +133,7 @@ fn leveldb_has_each_put() {
     }
 }
 
-/// Of each file: how many records it has, and every place at which it is in doubt or torn.
+/// Of each file: its length, how many records it has, and every place at which it is in doubt or torn.
 #[test]
 fn have_the_figures_of_their_readme() {
     let readme = include_str!("../../../samples/README.md");
@@ -151,7 +151,10 @@ fn have_the_figures_of_their_readme() {
         let answers = read(log);
         let is_record = |answer: &&Answer| matches!(answer, Answer::Record(..));
         let records = answers.iter().filter(is_record).count();
-        let mut said = vec![format!("| {} records,", grouped(records))];
+        let mut said = vec![
+            format!("; {} bytes |", grouped(log.len())),
+            format!("| {} records,", grouped(records)),
+        ];
         said.extend(answers.iter().filter_map(in_the_readme));
         for part in said {
             assert!(row.contains(&part), "{part:?} in the row of {name}.log");
