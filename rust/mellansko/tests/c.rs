@@ -76,6 +76,27 @@ fn the_header_stands_alone() {
     }
 }
 
+/// The README has a part of the example, and the command that makes it.
+#[test]
+fn the_readme_shows_the_example() {
+    let [readme, example] = ["README.md", "examples/journal.c"]
+        .map(|file| fs::read_to_string(root().join(file)).expect("a file of the repository"));
+    let block = |language: &str| {
+        let (_, rest) = readme.split_once("\n## From C\n").expect("a section on C");
+        let (_, rest) = rest
+            .split_once(&format!("\n```{language}\n"))
+            .expect("a block");
+        rest.split_once("```").expect("the block's end").0
+    };
+    assert!(example.contains(block("c")), "{}", block("c"));
+    let comment: String = example
+        .lines()
+        .filter_map(|line| line.strip_prefix(" * "))
+        .collect();
+    let words = |text: &str| text.split_whitespace().collect::<Vec<_>>().join(" ");
+    assert!(words(&comment).ends_with(&words(block("sh"))), "{comment}");
+}
+
 /// What examples/journal.c prints, if its calls are the reference's.
 fn journal() -> String {
     let mut lines = String::new();
