@@ -45,7 +45,7 @@ pub fn parse(words: impl Iterator<Item = OsString>) -> Result<Command, Trouble> 
         Some("map") => Words::of("map", help::MAP, &["--blocks", "--color"], rest)?.command(map),
         Some("cat") => Words::of("cat", help::CAT, &[], rest)?.command(cat),
         Some("append") => Words::of("append", help::APPEND, &["--new"], rest)?.command(append),
-        Some("help" | "--help" | "-h") => help_on(&rest),
+        _ if is_help(&first) => help_on(&rest),
         Some("--version" | "-V") => Ok(Command::Say(help::VERSION.into())),
         _ => Err(Trouble::Message(format!(
             "there is no command {}. The commands are verify, dump, map, cat and append: see mellansko --help",
@@ -56,9 +56,14 @@ pub fn parse(words: impl Iterator<Item = OsString>) -> Result<Command, Trouble> 
 
 fn help_on(rest: &[OsString]) -> Result<Command, Trouble> {
     match rest.first() {
-        None => Ok(Command::Say(help::ALL.into())),
-        Some(command) => parse([command.clone(), "--help".into()].into_iter()),
+        // Help on help is this too.
+        Some(command) if !is_help(command) => parse([command.clone(), "--help".into()].into_iter()),
+        _ => Ok(Command::Say(help::ALL.into())),
     }
+}
+
+fn is_help(word: &OsStr) -> bool {
+    word == "help" || word == "--help" || word == "-h"
 }
 
 /// The words behind a command.
