@@ -146,16 +146,18 @@ impl Words {
         Some(&option.1)
     }
 
+    /// A number in digits, or the highest there is where they say more.
     fn number(&self, what: &str, word: &OsStr) -> Result<usize, Trouble> {
-        let text = word
+        let digits = word
             .to_str()
-            .filter(|text| text.bytes().all(|b| b.is_ascii_digit()));
-        text.and_then(|text| text.parse().ok()).ok_or_else(|| {
-            self.wrong(&format!(
+            .filter(|text| !text.is_empty() && text.bytes().all(|b| b.is_ascii_digit()));
+        match digits {
+            Some(digits) => Ok(digits.parse().unwrap_or(usize::MAX)),
+            None => Err(self.wrong(&format!(
                 "{what} is to be a number in digits, not \"{}\"",
                 shown(word)
-            ))
-        })
+            ))),
+        }
     }
 
     /// The only words, as many as are wanted.
