@@ -92,10 +92,11 @@ impl Words {
         };
         let mut rest = rest.into_iter();
         while let Some(word) = rest.next() {
-            match word.to_str() {
-                Some("--help" | "-h") => words.wants_help = true,
-                Some("--") => words.plain.extend(rest.by_ref()),
-                Some(text) if text.starts_with('-') && text != "-" => {
+            // No option and no value of one has anything but plain letters in it.
+            match &*word.to_string_lossy().into_owned() {
+                "--help" | "-h" => words.wants_help = true,
+                "--" => words.plain.extend(rest.by_ref()),
+                text if text.starts_with('-') && text != "-" => {
                     words.option(text, known, &mut rest)?;
                 }
                 _ => words.plain.push(word),
