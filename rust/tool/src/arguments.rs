@@ -182,6 +182,14 @@ fn source(word: OsString) -> Source {
     }
 }
 
+/// A file's name is not empty; one that is comes from a variable that was never set.
+fn named(words: &Words, file: &OsStr) -> Result<(), Trouble> {
+    match file.is_empty() {
+        true => Err(words.wrong("a file's name is empty")),
+        false => Ok(()),
+    }
+}
+
 fn verify(words: Words) -> Result<Command, Trouble> {
     if words.plain.is_empty() {
         return Err(words.wrong("wants one file or more"));
@@ -189,6 +197,10 @@ fn verify(words: Words) -> Result<Command, Trouble> {
     if words.plain.iter().filter(|&word| word == "-").count() > 1 {
         return Err(words.wrong("- is given twice, and standard input can be read only once"));
     }
+    words
+        .plain
+        .iter()
+        .try_for_each(|word| named(&words, word))?;
     let sources = words.plain.into_iter().map(source).collect();
     Ok(Command::Verify { sources })
 }
@@ -199,6 +211,7 @@ fn dump(mut words: Words) -> Result<Command, Trouble> {
         None => LONGEST_RECORD,
     };
     let [file] = words.only("one file")?;
+    named(&words, &file)?;
     Ok(Command::Dump {
         source: source(file),
         limit,
@@ -220,6 +233,7 @@ fn map(mut words: Words) -> Result<Command, Trouble> {
         _ => return Err(words.wrong("--color is to be always, never or auto")),
     };
     let [file] = words.only("one file")?;
+    named(&words, &file)?;
     Ok(Command::Map {
         source: source(file),
         blocks,
@@ -229,6 +243,7 @@ fn map(mut words: Words) -> Result<Command, Trouble> {
 
 fn cat(mut words: Words) -> Result<Command, Trouble> {
     let [file, number] = words.only("a file and a record's number")?;
+    named(&words, &file)?;
     let number = words.number("the record's number", &number)?;
     if number == 0 {
         return Err(words.wrong("records are numbered from 1 on"));
@@ -242,6 +257,7 @@ fn cat(mut words: Words) -> Result<Command, Trouble> {
 fn append(mut words: Words) -> Result<Command, Trouble> {
     let new = words.value("--new").is_some();
     let [file] = words.only("one file")?;
+    named(&words, &file)?;
     if file == "-" {
         return Err(words.wrong("standard input has the record, so the journal is to be a file"));
     }
