@@ -105,16 +105,21 @@ fn record_from_input() -> Result<Vec<u8>, Trouble> {
     .map_err(|error| Trouble::io(name, "be read", &error))
 }
 
-/// What the file holds, which no other append changes until this one ends.
-fn taken(file: &File, path: &OsStr) -> Result<Vec<u8>, Trouble> {
+/// Keeps every other append off the file until this one ends.
+fn lock(file: &File, path: &OsStr) -> Result<(), Trouble> {
     match file.try_lock() {
-        Ok(()) => {}
+        Ok(()) => Ok(()),
         Err(TryLockError::WouldBlock) => {
             let why = "another program has it locked. Try again when that is done";
-            return Err(nothing_appended(path, why));
+            Err(nothing_appended(path, why))
         }
-        Err(TryLockError::Error(error)) => return Err(Trouble::io(path, "be locked", &error)),
+        Err(TryLockError::Error(error)) => Err(Trouble::io(path, "be locked", &error)),
     }
+}
+
+/// What the file holds, which no other append changes until this one ends.
+fn taken(file: &File, path: &OsStr) -> Result<Vec<u8>, Trouble> {
+    lock(file, path)?;
     journal::read(file, path, LONGEST_LOG, &mut Progress::new())
         .map_err(|error| Trouble::io(path, "be read", &error))
 }
@@ -138,7 +143,7 @@ fn store(old: Option<File>, path: &OsStr, used: usize, added: &[u8]) -> Result<(
     let trouble = |error: io::Error| Trouble::io(path, "be written", &error);
     let file = match old {
         Some(file) => file,
-        None => begun(path).map_err(trouble)?,
+        None => begun(path)?,
     };
     if file.metadata().map_err(trouble)?.len() != used as u64 {
         let why = "another program wrote to it meanwhile. Try again";
@@ -163,9 +168,12 @@ fn store(old: Option<File>, path: &OsStr, used: usize, added: &[u8]) -> Result<(
     })
 }
 
-fn begun(path: &OsStr) -> io::Result<File> {
+fn begun(path: &OsStr) -> Result<File, Trouble> {
     let mut options = OpenOptions::new();
-    options.append(true).create_new(true).open(path)
+    let file = options.append(true).create_new(true).open(path);
+    let file = file.map_err(|error| Trouble::io(path, "be written", &error))?;
+    lock(&file, path)?;
+    Ok(file)
 }
 
 /// Behind what the file holds, and down to the disk; a new file's name too.
