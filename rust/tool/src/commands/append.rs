@@ -60,15 +60,33 @@ fn nothing_appended(path: &OsStr, why: &str) -> Trouble {
     Trouble::of(path, &format!("nothing was appended: {why}"))
 }
 
-/// Makes sure that there is no such file yet.
+/// Makes sure that there is no such file yet, and a folder for it.
 fn absent(path: &OsStr) -> Result<Option<File>, Trouble> {
-    match fs::exists(path) {
-        Ok(false) => Ok(None),
-        Ok(true) => {
-            let why = "it is there already. To add to it, leave out --new";
-            Err(nothing_appended(path, why))
-        }
-        Err(error) => Err(Trouble::io(path, "be begun", &error)),
+    let trouble = |error| Trouble::io(path, "be begun", &error);
+    if fs::exists(path).map_err(trouble)? {
+        return Err(there_already(path));
+    }
+    if fs::symlink_metadata(path).is_ok() {
+        let why = "it is a link to a file that is not there. Name that file instead";
+        return Err(nothing_appended(path, why));
+    }
+    let folder = folder_of(path);
+    if !fs::exists(folder).map_err(trouble)? {
+        let folder = shown(folder.as_os_str());
+        let why = format!("there is no folder {folder}. Make it first, or check the name");
+        return Err(nothing_appended(path, &why));
+    }
+    Ok(None)
+}
+
+fn there_already(path: &OsStr) -> Trouble {
+    nothing_appended(path, "it is there already. To add to it, leave out --new")
+}
+
+fn folder_of(path: &OsStr) -> &Path {
+    match Path::new(path).parent() {
+        Some(folder) if !folder.as_os_str().is_empty() => folder,
+        _ => Path::new("."),
     }
 }
 
@@ -171,7 +189,10 @@ fn store(old: Option<File>, path: &OsStr, used: usize, added: &[u8]) -> Result<(
 fn begun(path: &OsStr) -> Result<File, Trouble> {
     let mut options = OpenOptions::new();
     let file = options.append(true).create_new(true).open(path);
-    let file = file.map_err(|error| Trouble::io(path, "be written", &error))?;
+    let file = file.map_err(|error| match error.kind() {
+        io::ErrorKind::AlreadyExists => there_already(path),
+        _ => Trouble::io(path, "be begun", &error),
+    })?;
     lock(&file, path)?;
     Ok(file)
 }
@@ -181,9 +202,7 @@ fn put(mut file: &File, path: &OsStr, added: &[u8], new: bool) -> io::Result<()>
     file.write_all(added)?;
     file.sync_all()?;
     if new {
-        let folder = Path::new(path).parent();
-        let folder = folder.filter(|folder| !folder.as_os_str().is_empty());
-        File::open(folder.unwrap_or(Path::new(".")))?.sync_all()?;
+        File::open(folder_of(path))?.sync_all()?;
     }
     Ok(())
 }
