@@ -36,7 +36,7 @@ impl Source {
 
     /// The message for a journal that the reader refuses.
     pub fn refused(&self, refusal: Refusal) -> Trouble {
-        refused(self.name(), refusal)
+        Trouble::of(self.name(), &why_refused(refusal))
     }
 }
 
@@ -65,25 +65,25 @@ pub fn read(
     Ok(all)
 }
 
-/// The message for what a proved call refuses.
-pub fn refused(name: &OsStr, refusal: Refusal) -> Trouble {
+/// Why a proved call refuses a journal or a record, and what to do.
+pub fn why_refused(refusal: Refusal) -> String {
     let (log, record) = (grouped(LONGEST_LOG), grouped(LONGEST_RECORD));
     let (why, advice) = match refusal.condition {
         Condition::LogTooLong => (
-            format!("longer than {log} bytes, the most that a journal may have"),
+            format!("it is longer than {log} bytes, the most that a journal may have"),
             format!(". Nothing of it was judged; for what its beginning holds, run: head -c {LONGEST_LOG} FILE | mellansko verify -"),
         ),
         Condition::RecordTooLong => (
-            format!("nothing was appended: the record is longer than {record} bytes, the most that one may have"),
+            format!("the record is longer than {record} bytes, the most that one may have"),
             String::new(),
         ),
         Condition::NoRoom => (
-            format!("nothing was appended: with the record the journal would be longer than {log} bytes"),
+            format!("with the record the journal would be longer than {log} bytes"),
             ". Begin another: mellansko append --new OTHER-FILE".into(),
         ),
         Condition::LimitTooHigh => (format!("the highest limit is {record} bytes"), String::new()),
         _ => (refusal.to_string(), String::new()),
     };
     let number = refusal.condition.number();
-    Trouble::of(name, &format!("{why} (refusal {number}){advice}"))
+    format!("{why} (refusal {number}){advice}")
 }

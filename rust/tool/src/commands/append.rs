@@ -2,7 +2,7 @@
 //!
 //! What the file held is never written to: it only grows, and a write that fails is taken back.
 
-use crate::journal::{self, refused};
+use crate::journal::{self, why_refused};
 use crate::progress::Progress;
 use crate::survey::Survey;
 use crate::trouble::{note, Trouble};
@@ -27,7 +27,8 @@ pub fn append(path: &OsString, new: bool) -> Result<Status, Trouble> {
         None => Vec::new(),
     };
     let mut progress = Progress::new();
-    let survey = Survey::of(&log, path, &mut progress).map_err(|refusal| refused(path, refusal))?;
+    let refused = |refusal| nothing_appended(path, &why_refused(refusal));
+    let survey = Survey::of(&log, path, &mut progress).map_err(refused)?;
     drop(progress);
     if survey.status() != Status::Whole {
         note(&format!(
@@ -38,7 +39,7 @@ pub fn append(path: &OsString, new: bool) -> Result<Status, Trouble> {
         return Ok(Status::Doubt);
     }
     let used = log.len();
-    let written = write(&mut log, &record).map_err(|refusal| refused(path, refusal))?;
+    let written = write(&mut log, &record).map_err(refused)?;
     store(old, path, used, &log[used..written.end])?;
     say(&format!(
         "{}: record {} appended, {}, at {} to {}.",
