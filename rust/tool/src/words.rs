@@ -52,12 +52,14 @@ pub fn blocks(runs: &[(usize, usize)]) -> String {
     }
 }
 
-/// A file's name with nothing in it that would move a terminal's cursor or end the line.
+/// A file's name with nothing in it that would move a terminal's cursor, end the line, or turn the
+/// direction of what follows.
 pub fn shown(name: &OsStr) -> String {
     let name = name.to_string_lossy();
     let mut text = String::new();
     for c in name.chars() {
-        if c.is_control() {
+        let turns = matches!(c, '\u{61c}' | '\u{200e}'..='\u{200f}' | '\u{202a}'..='\u{202e}' | '\u{2066}'..='\u{2069}');
+        if c.is_control() || turns || matches!(c, '\u{2028}' | '\u{2029}') {
             text.extend(c.escape_default());
         } else {
             text.push(c);
