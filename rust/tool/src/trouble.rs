@@ -22,6 +22,9 @@ impl Trouble {
         let why = match error.kind() {
             io::ErrorKind::NotFound => "there is no such file. Check the name".into(),
             io::ErrorKind::IsADirectory => "it is a folder. Name a journal in it".into(),
+            io::ErrorKind::NotADirectory => {
+                "a part of the name before a slash is no folder. Check the name".into()
+            }
             io::ErrorKind::PermissionDenied => {
                 "permission is denied. Ask the file's owner, or copy it to where it is allowed"
                     .into()
