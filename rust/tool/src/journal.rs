@@ -2,7 +2,7 @@
 
 use crate::progress::Progress;
 use crate::trouble::Trouble;
-use crate::words::{bytes, grouped, shown};
+use crate::words::{bytes, grouped, short};
 use mellansko::{Condition, Refusal, LONGEST_LOG, LONGEST_RECORD};
 use std::ffi::{OsStr, OsString};
 use std::fs::File;
@@ -59,7 +59,7 @@ pub fn read(
             Err(error) if error.kind() == io::ErrorKind::Interrupted => {}
             Err(error) => return Err(error),
         }
-        progress.show(|| format!("{}: {} read", shown(name), bytes(used)));
+        progress.show(|| format!("{}: {} read", short(name), bytes(used)));
     }
     all.truncate(used);
     Ok(all)

@@ -1,7 +1,7 @@
 //! What one reading of a journal finds.
 
 use crate::progress::Progress;
-use crate::words::{blocks, blocks_of, bytes, count, grouped, shown};
+use crate::words::{blocks, blocks_of, bytes, count, grouped, short};
 use crate::Status;
 use mellansko::{Answer, Reading, Record, Refusal, Skip, Tail, BLOCK};
 use std::ffi::OsStr;
@@ -37,7 +37,7 @@ impl Survey {
             }
             progress.show(|| {
                 let percent = reading.place() * 100 / log.len().max(1);
-                format!("{}: {percent} % judged", shown(name))
+                format!("{}: {percent} % judged", short(name))
             });
         }
         Ok(survey)

@@ -52,6 +52,17 @@ pub fn blocks(runs: &[(usize, usize)]) -> String {
     }
 }
 
+/// The end of a file's name, short enough for a line with more on it.
+pub fn short(name: &OsStr) -> String {
+    const MOST: usize = 40;
+    let name = shown(name);
+    let more = name.chars().count().saturating_sub(MOST);
+    match name.char_indices().nth(more) {
+        Some((place, _)) if more > 0 => format!("...{}", &name[place..]),
+        _ => name,
+    }
+}
+
 /// A file's name with nothing in it that would move a terminal's cursor, end the line, or turn the
 /// direction of what follows.
 pub fn shown(name: &OsStr) -> String {
