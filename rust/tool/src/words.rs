@@ -69,12 +69,16 @@ pub fn shown(name: &OsStr) -> String {
     let name = name.to_string_lossy();
     let mut text = String::new();
     for c in name.chars() {
-        let turns = matches!(c, '\u{61c}' | '\u{200e}'..='\u{200f}' | '\u{202a}'..='\u{202e}' | '\u{2066}'..='\u{2069}');
-        if c.is_control() || turns || matches!(c, '\u{2028}' | '\u{2029}') {
+        if c.is_control() || ends_or_turns(c) {
             text.extend(c.escape_default());
         } else {
             text.push(c);
         }
     }
     text
+}
+
+/// The marks of Unicode that end a line or a paragraph, or turn the direction.
+fn ends_or_turns(c: char) -> bool {
+    matches!(c, '\u{61c}' | '\u{200e}' | '\u{200f}' | '\u{2028}'..='\u{202e}' | '\u{2066}'..='\u{2069}')
 }
