@@ -1,0 +1,163 @@
+//! What the tool is to say of a log, by the reference's answers.
+
+use reference::log::{
+    append, next, record_bytes, Appended, Next, Tail, BLOCK, LONGEST_LOG, LONGEST_RECORD,
+};
+use std::ops::Range;
+
+/// All that the reference finds in a log, with the highest limit.
+#[derive(Default)]
+pub struct Found {
+    pub length: usize,
+    pub records: Vec<(Range<usize>, Vec<u8>)>,
+    /// The ranges that are skipped, and the reasons.
+    pub skips: Vec<(Range<usize>, u8)>,
+    pub torn: Option<usize>,
+}
+
+impl Found {
+    pub fn in_log(log: &[u8]) -> Found {
+        let mut found = Found {
+            length: log.len(),
+            ..Found::default()
+        };
+        each_answer(log, LONGEST_RECORD, |answer, bytes| match *answer {
+            Next::Record { start, end, .. } => found.records.push((start..end, bytes.to_vec())),
+            Next::Skip { start, end, reason } => found.skips.push((start..end, reason)),
+            Next::End(Tail::Clean) => {}
+            Next::End(Tail::Torn(start)) => found.torn = Some(start),
+            Next::Refused { .. } => panic!("{answer:?} by the reference"),
+        });
+        found
+    }
+
+    pub fn is_whole(&self) -> bool {
+        self.skips.is_empty() && self.torn.is_none()
+    }
+
+    pub fn status(&self) -> i32 {
+        i32::from(!self.is_whole())
+    }
+
+    /// Every range in doubt.
+    pub fn doubtful(&self) -> Vec<Range<usize>> {
+        let skips = self.skips.iter().map(|(range, _)| range.clone());
+        skips.chain(self.torn_tail()).collect()
+    }
+
+    pub fn torn_tail(&self) -> Option<Range<usize>> {
+        self.torn.map(|start| start..self.length)
+    }
+
+    pub fn blocks(&self) -> usize {
+        self.length.div_ceil(BLOCK)
+    }
+}
+
+/// The answers from place 0 up to the end, or a refusal.
+fn each_answer(log: &[u8], limit: usize, mut each: impl FnMut(&Next, &[u8])) {
+    let mut buffer = vec![0; limit.min(LONGEST_RECORD)];
+    let mut place = 0;
+    loop {
+        let answer = next(log, place, limit, &mut buffer);
+        each(&answer, record_bytes(log, &buffer, &answer));
+        if matches!(answer, Next::End(_) | Next::Refused { .. }) {
+            return;
+        }
+        place = answer.place_after(log);
+    }
+}
+
+/// What `dump` is to write.
+pub fn dumped(log: &[u8], limit: usize) -> String {
+    let mut lines = String::new();
+    each_answer(log, limit, |answer, _| {
+        lines += &match *answer {
+            Next::Record {
+                start, end, length, ..
+            } => format!("R {start} {end} {length}\n"),
+            Next::Skip { start, end, reason } => format!("S {start} {end} {reason}\n"),
+            Next::End(Tail::Clean) => "E clean\n".into(),
+            Next::End(Tail::Torn(start)) => format!("E torn {start}\n"),
+            Next::Refused { number, .. } => format!("X {number}\n"),
+        }
+    });
+    lines
+}
+
+/// A log of these records.
+pub fn written<T: AsRef<[u8]>>(records: &[T]) -> Vec<u8> {
+    let mut log = Vec::new();
+    for record in records {
+        add(&mut log, record.as_ref());
+    }
+    log
+}
+
+/// Appends a record as the reference does.
+pub fn add(log: &mut Vec<u8>, record: &[u8]) {
+    let used = log.len();
+    let room = used + record.len() + 100;
+    log.resize(room.min(LONGEST_LOG), 0);
+    let Appended::Mark(mark) = append(log, used, record) else {
+        panic!("a record of {} bytes at {used} has no room", record.len());
+    };
+    log.truncate(mark);
+}
+
+/// The example of the format's text.
+pub fn example() -> Vec<u8> {
+    written(&[vec![b'A'; 1_000], vec![b'B'; 97_270], vec![b'C'; 8_000]])
+}
+
+/// A log of just the highest length.
+pub fn longest_log() -> Vec<u8> {
+    let mut log = Vec::new();
+    let record: Vec<u8> = (0..LONGEST_RECORD).map(|i| (i / 7) as u8).collect();
+    while LONGEST_LOG - log.len() > 300_000 {
+        add(&mut log, &record);
+    }
+    let headers = 7 * (LONGEST_LOG / BLOCK - log.len() / BLOCK);
+    let rest = LONGEST_LOG - log.len() - headers;
+    add(&mut log, &record[..rest]);
+    assert_eq!(log.len(), LONGEST_LOG);
+    log
+}
+
+/// A number with commas.
+pub fn grouped(number: usize) -> String {
+    if number < 1_000 {
+        return number.to_string();
+    }
+    format!("{},{:03}", grouped(number / 1_000), number % 1_000)
+}
+
+/// So many of something, of which one is written without s.
+pub fn count(number: usize, what: &str) -> String {
+    let s = if number == 1 { "" } else { "s" };
+    format!("{} {what}{s}", grouped(number))
+}
+
+/// The numbers in a line, in their order.
+pub fn numbers(line: &str) -> Vec<usize> {
+    line.split(|c: char| !c.is_ascii_digit() && c != ',')
+        .filter_map(|word| word.replace(',', "").parse().ok())
+        .collect()
+}
+
+/// The first and the last block of a range, counted from 1; once if they are the same.
+pub fn block_numbers(range: &Range<usize>) -> Vec<usize> {
+    let mut blocks = vec![range.start / BLOCK + 1, (range.end - 1) / BLOCK + 1];
+    blocks.dedup();
+    blocks
+}
+
+/// The text without codes for colours.
+pub fn without_codes(text: &str) -> String {
+    let mut pieces = text.split("\x1b[");
+    let mut plain = pieces.next().unwrap_or_default().to_string();
+    for piece in pieces {
+        plain += piece.split_once('m').expect("a code ends with m").1;
+    }
+    plain
+}

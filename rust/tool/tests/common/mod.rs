@@ -1,0 +1,134 @@
+//! What the tests of the tool share.
+
+// Each test program takes a part of it.
+#![allow(dead_code, unused_macros)]
+
+pub mod damage;
+pub mod expect;
+pub mod files;
+#[path = "../../../mellansko/tests/random/mod.rs"]
+pub mod random;
+pub mod terminal;
+
+use std::io::{Read, Write};
+use std::process::{Child, Command, Stdio};
+use std::sync::mpsc::{channel, Receiver};
+use std::thread;
+use std::time::Duration;
+
+/// Longer than any run takes, on a machine that has other things to do.
+const PATIENCE: Duration = Duration::from_secs(60);
+
+/// The tool, with nothing on standard input and no wishes as to colour.
+pub fn tool() -> Command {
+    let mut command = Command::new(env!("CARGO_BIN_EXE_mellansko"));
+    command.env_remove("NO_COLOR").stdin(Stdio::null());
+    command
+}
+
+/// Runs the tool with these words behind its name.
+macro_rules! run {
+    ($($word:expr),* $(,)?) => {
+        $crate::common::ran($crate::common::tool()$(.arg($word))*)
+    };
+}
+
+/// Runs the tool with these bytes on standard input, and then these words behind its name.
+macro_rules! feed {
+    ($input:expr; $($word:expr),* $(,)?) => {
+        $crate::common::fed($crate::common::tool()$(.arg($word))*, $input)
+    };
+}
+
+/// What a run left.
+pub struct Ran {
+    pub status: Option<i32>,
+    pub out: Vec<u8>,
+    pub err: String,
+}
+
+impl Ran {
+    pub fn text(&self) -> &str {
+        std::str::from_utf8(&self.out).expect("text on standard output")
+    }
+
+    /// The lines of standard output, each of which is ended.
+    pub fn lines(&self) -> Vec<&str> {
+        let text = self.text();
+        assert!(text.is_empty() || text.ends_with('\n'), "{text:?}");
+        text.lines().collect()
+    }
+
+    /// Done, and nothing to complain of.
+    pub fn done(&self) -> &Ran {
+        assert_eq!((self.status, self.err.as_str()), (Some(0), ""));
+        self
+    }
+
+    /// Nothing on standard output, and a message that says all of these.
+    pub fn failed(&self, status: i32, says: &[&str]) {
+        assert_eq!(self.text(), "", "{}", self.err);
+        self.complained(status, says);
+    }
+
+    /// A message of one line that says all of these.
+    pub fn complained(&self, status: i32, says: &[&str]) {
+        assert_eq!(self.status, Some(status), "{}", self.err);
+        assert_eq!(self.err.lines().count(), 1, "{}", self.err);
+        self.warned(says);
+    }
+
+    /// A message that says all of these.
+    pub fn warned(&self, says: &[&str]) {
+        assert!(self.err.starts_with("mellansko: "), "{}", self.err);
+        for said in says {
+            assert!(self.err.contains(said), "{said:?} is not in: {}", self.err);
+        }
+    }
+}
+
+pub fn ran(command: &mut Command) -> Ran {
+    command.stdout(Stdio::piped()).stderr(Stdio::piped());
+    finish(command.spawn().expect("the program starts"), Vec::new())
+}
+
+pub fn fed(command: &mut Command, input: &[u8]) -> Ran {
+    command
+        .stdin(Stdio::piped())
+        .stdout(Stdio::piped())
+        .stderr(Stdio::piped());
+    let child = command.spawn().expect("the program starts");
+    finish(child, input.to_vec())
+}
+
+/// Gives a running program its input and waits for its end, which is to be one of its own choice.
+pub fn finish(mut child: Child, input: Vec<u8>) -> Ran {
+    let stdin = child.stdin.take();
+    let feeder = thread::spawn(move || {
+        // A program that refuses at once need not read it all.
+        stdin.map(|mut stdin| stdin.write_all(&input))
+    });
+    let (out, err) = (gather(child.stdout.take()), gather(child.stderr.take()));
+    let (Ok(out), Ok(err)) = (out.recv_timeout(PATIENCE), err.recv_timeout(PATIENCE)) else {
+        child.kill().expect("it can be ended");
+        panic!("it hangs");
+    };
+    let status = child.wait().expect("it ends").code();
+    let _ = feeder.join();
+    let err = String::from_utf8(err).expect("text on standard error");
+    assert!(matches!(status, Some(0..=2)), "{status:?}: {err}");
+    assert!(!err.contains("panicked"), "{err}");
+    Ran { status, out, err }
+}
+
+fn gather(from: Option<impl Read + Send + 'static>) -> Receiver<Vec<u8>> {
+    let (send, receive) = channel();
+    thread::spawn(move || {
+        let mut all = Vec::new();
+        if let Some(mut from) = from {
+            from.read_to_end(&mut all).expect("it can be read");
+        }
+        let _ = send.send(all);
+    });
+    receive
+}

@@ -1,0 +1,56 @@
+//! A terminal for the tool to run on, of which the test holds the other end.
+
+use std::ffi::{c_char, c_int, CStr};
+use std::fs::{File, OpenOptions};
+use std::io::Read;
+use std::os::fd::AsRawFd;
+use std::os::unix::fs::OpenOptionsExt;
+use std::sync::mpsc::{channel, Receiver};
+use std::thread;
+
+extern "C" {
+    fn grantpt(fd: c_int) -> c_int;
+    fn unlockpt(fd: c_int) -> c_int;
+    fn ptsname_r(fd: c_int, name: *mut c_char, length: usize) -> c_int;
+}
+
+/// The test's end, and the tool's.
+pub fn terminal() -> (File, File) {
+    let near = open("/dev/ptmx");
+    let mut name = [0; 100];
+    // Safe: the name is written into that many bytes, with a zero at its end.
+    let name = unsafe {
+        assert_eq!(grantpt(near.as_raw_fd()), 0);
+        assert_eq!(unlockpt(near.as_raw_fd()), 0);
+        assert_eq!(
+            ptsname_r(near.as_raw_fd(), name.as_mut_ptr(), name.len()),
+            0
+        );
+        CStr::from_ptr(name.as_ptr())
+    };
+    let far = open(name.to_str().expect("a name in plain letters"));
+    (near, far)
+}
+
+fn open(name: &str) -> File {
+    // Not to become the terminal that rules the test.
+    const O_NOCTTY: i32 = 0o400;
+    let mut options = OpenOptions::new();
+    options.read(true).write(true).custom_flags(O_NOCTTY);
+    options.open(name).expect(name)
+}
+
+/// All that is shown, up to when the tool's end is closed.
+pub fn shown(mut near: File) -> Receiver<String> {
+    let (send, receive) = channel();
+    thread::spawn(move || {
+        let mut all = Vec::new();
+        let mut piece = [0; 4_096];
+        // The end comes as an error.
+        while let Ok(read @ 1..) = near.read(&mut piece) {
+            all.extend_from_slice(&piece[..read]);
+        }
+        let _ = send.send(String::from_utf8(all).expect("text"));
+    });
+    receive
+}
