@@ -1,0 +1,221 @@
+//! `mellansko map`: the picture of a journal.
+
+#[macro_use]
+mod common;
+
+use common::damage::{long_logs, mixed_log};
+use common::expect::{count, grouped, longest_log, numbers, without_codes, written, Found};
+use common::files::Folder;
+use common::random::Random;
+use common::{fed, ran, tool};
+use reference::log::BLOCK;
+
+/// The rows that a log is drawn in, with so many blocks a cell: the place of a row's first byte,
+/// and its cells.
+fn rows(found: &Found, blocks: usize) -> Vec<(String, String)> {
+    let cell_bytes = blocks * BLOCK;
+    let cells = found.length.div_ceil(cell_bytes);
+    let in_cell = |cell: usize, start: usize, end: usize| {
+        start < (cell + 1) * cell_bytes && end > cell * cell_bytes
+    };
+    let mut rows = Vec::new();
+    for cell in 0..cells {
+        let skipped =
+            |(range, _): &(std::ops::Range<usize>, u8)| in_cell(cell, range.start, range.end);
+        let doubt = found.skips.iter().any(skipped);
+        let torn = found
+            .torn
+            .is_some_and(|start| in_cell(cell, start, found.length));
+        let letter = match (doubt, torn) {
+            (false, false) => 'W',
+            (true, false) => 'D',
+            (false, true) => 'T',
+            (true, true) => 'X',
+        };
+        let end = (cell + 1) * cell_bytes;
+        let runs_on =
+            |(range, _): &(std::ops::Range<usize>, Vec<u8>)| range.start < end && range.end > end;
+        let joint = if found.records.iter().any(runs_on) {
+            '-'
+        } else {
+            ' '
+        };
+        if cell % 32 == 0 {
+            rows.push((grouped(cell * cell_bytes), String::new()));
+        }
+        rows.last_mut().expect("a row").1.extend([letter, joint]);
+    }
+    for row in &mut rows {
+        row.1.truncate(row.1.trim_end().len());
+    }
+    rows
+}
+
+/// Holds a picture to the reference: the answer, the rows, an empty line, and the legend.
+fn check(lines: &[&str], found: &Found, blocks: usize) {
+    let rows = rows(found, blocks);
+    let word = if found.is_whole() {
+        ": whole"
+    } else {
+        ": NOT WHOLE"
+    };
+    assert!(lines[0].contains(word), "{}", lines[0]);
+    for (line, (place, cells)) in lines[1..].iter().zip(&rows) {
+        let drawn = line.trim_start().split_once("  ").expect("two columns");
+        assert_eq!(drawn, (place.as_str(), cells.as_str()));
+        assert!(line.len() < 80, "{line}");
+        // All rows begin in one column.
+        assert_eq!(line.find(['W', 'D', 'T', 'X']), Some(15), "{line}");
+    }
+    let [empty, letters, cell] = lines[1 + rows.len()..] else {
+        panic!("{lines:?}");
+    };
+    assert_eq!(empty, "");
+    for meaning in ["W whole", "D in doubt", "T torn", "X ", "- a record"] {
+        assert!(letters.contains(meaning), "{letters}");
+    }
+    assert!(cell.contains(&count(blocks * BLOCK, "byte")), "{cell}");
+}
+
+#[test]
+fn each_kind_of_block_has_its_letter_and_a_record_its_joint() {
+    let log = mixed_log();
+    let found = Found::in_log(&log);
+    // Whole, changed, and a record from block 3 into block 4, in which the tail is torn.
+    assert_eq!(rows(&found, 1), [("0".into(), "W D W-T".into())]);
+    let ran = fed(tool().args(["map", "-"]), &log);
+    assert_eq!(ran.status, Some(1));
+    check(&ran.lines(), &found, 1);
+
+    let mut both = log;
+    both.truncate(BLOCK + 2_000);
+    both[BLOCK + 5] = 0xff;
+    both.extend(vec![0; BLOCK - 2_000]);
+    both.extend([1, 2, 3]);
+    both[100] ^= 1;
+    check_log(&both, 1);
+    // A skipped range and the torn tail in one block.
+    let mut both = written(&[&[1; 10][..]]);
+    both.extend(reference::log::fragment(4, b"orphan"));
+    both.extend([9; 3]);
+    let found = Found::in_log(&both);
+    assert_eq!(rows(&found, 1), [("0".into(), "X".into())]);
+    check_log(&both, 1);
+}
+
+fn check_log(log: &[u8], blocks: usize) {
+    let found = Found::in_log(log);
+    let ran = fed(
+        tool().args(["map", "--blocks", &blocks.to_string(), "-"]),
+        log,
+    );
+    assert_eq!((ran.status, ran.err.as_str()), (Some(found.status()), ""));
+    check(&ran.lines(), &found, blocks);
+}
+
+#[test]
+fn damaged_logs_are_drawn_as_the_reference_reads_them() {
+    let mut random = Random::new();
+    println!("{random}");
+    for log in long_logs(&mut random, 60) {
+        if !log.is_empty() {
+            check_log(&log, 1);
+        }
+    }
+}
+
+#[test]
+fn a_joint_stands_where_a_record_runs_over_a_block_and_nowhere_else() {
+    for lengths in [
+        // Just to a block's end, and by one byte over it.
+        vec![32_761, 10, 32_744],
+        vec![32_762, 10],
+        // An empty first fragment at a block's end; and a trailer instead.
+        vec![32_754, 1, 5],
+        vec![32_755, 1, 5],
+        vec![32_754, 0, 5],
+        vec![100_000, 3],
+    ] {
+        let records: Vec<Vec<u8>> = lengths.iter().map(|&length| vec![5; length]).collect();
+        check_log(&written(&records), 1);
+    }
+    let drawn = |log: &[u8]| rows(&Found::in_log(log), 1)[0].1.clone();
+    assert_eq!(drawn(&written(&[vec![5; 32_761], vec![5; 3]])), "W W");
+    assert_eq!(drawn(&written(&[vec![5; 32_754], vec![5; 1]])), "W-W");
+    assert_eq!(drawn(&written(&[vec![5; 32_755], vec![5; 1]])), "W W");
+}
+
+#[test]
+fn several_blocks_are_one_cell_and_a_row_has_32() {
+    let mut random = Random::new();
+    println!("{random}");
+    // Records of two to three blocks, in 70 blocks, with some in doubt.
+    let mut log = written(&vec![vec![3; 80_000]; 28]);
+    for _ in 0..4 {
+        let place = random.below(log.len());
+        log[place] ^= 1;
+    }
+    assert_eq!(rows(&Found::in_log(&log), 1).len(), 3);
+    for blocks in [1, 2, 3, 7, 32, 68, 69] {
+        check_log(&log, blocks);
+    }
+    // More than there are is all.
+    let all = Found::in_log(&log).blocks();
+    for blocks in ["100000", "99999999999999999999999"] {
+        let ran = feed!(&log; "map", "--blocks", blocks, "-");
+        check(&ran.lines(), &Found::in_log(&log), all);
+    }
+}
+
+#[test]
+fn the_longest_log_fits_16_rows() {
+    let mut log = longest_log();
+    log[5_000_000] ^= 1;
+    log[16_777_215] ^= 1;
+    let folder = Folder::new("map-longest");
+    let file = folder.file("log", &log);
+    let ran = run!("map", &file);
+    let found = Found::in_log(&log);
+    assert_eq!(ran.status, Some(1));
+    check(&ran.lines(), &found, 1);
+    assert_eq!(ran.lines().len(), 1 + 16 + 3);
+}
+
+#[test]
+fn an_empty_journal_has_no_cells() {
+    let ran = run!("map", "-");
+    let lines = ran.done().lines();
+    assert_eq!(lines.len(), 1);
+    assert!(lines[0].contains("whole") && lines[0].contains("empty"));
+    assert_eq!(numbers(lines[0]), []);
+}
+
+#[test]
+fn colours_change_no_letter_and_come_only_if_asked_for() {
+    let log = mixed_log();
+    let plain = fed(tool().args(["map", "-"]), &log);
+    assert!(!plain.text().contains('\x1b'));
+    for words in [&["--color", "auto"][..], &["--color=never"]] {
+        let ran = fed(tool().arg("map").args(words).arg("-"), &log);
+        assert_eq!(ran.text(), plain.text());
+    }
+    for set in ["", "1"] {
+        // What is asked for in so many words goes before NO_COLOR.
+        let mut command = tool();
+        command
+            .args(["map", "--color", "always", "-"])
+            .env("NO_COLOR", set);
+        let ran = fed(&mut command, &log);
+        assert_eq!(ran.status, plain.status);
+        assert_eq!(without_codes(ran.text()), plain.text());
+        // A colour of its own for each letter, and none left on.
+        for letter in ["W", "D", "T", "X"] {
+            assert!(
+                ran.text().contains(&format!("m{letter}\x1b[0m")),
+                "{letter}"
+            );
+        }
+    }
+    let ran = ran(tool().args(["map", "--color", "sometimes", "-"]));
+    ran.failed(2, &["map", "--color", "always, never or auto"]);
+}
