@@ -1,0 +1,109 @@
+//! `mellansko cat`: the bytes of one record.
+
+#[macro_use]
+mod common;
+
+use common::damage::{long_logs, mixed_log};
+use common::expect::{grouped, written, Found};
+use common::files::Folder;
+use common::random::Random;
+
+#[test]
+fn every_record_comes_out_byte_for_byte() {
+    let folder = Folder::new("cat-bytes");
+    let every_byte: Vec<u8> = (0..=255).collect();
+    let records = [
+        b"LW10-1 0.9137\r\n".to_vec(),
+        Vec::new(),
+        every_byte.repeat(500),
+        b"\0".to_vec(),
+        b"no line's end".to_vec(),
+        every_byte.repeat(1_024),
+    ];
+    let log = written(&records);
+    assert_eq!(records[5].len(), 262_144);
+    let file = folder.file("log", &log);
+    for (i, record) in records.iter().enumerate() {
+        let number = (i + 1).to_string();
+        let ran = run!("cat", &file, &number);
+        assert!(ran.done().out == *record, "record {number}");
+        let ran = feed!(&log; "cat", "-", &number);
+        assert!(ran.done().out == *record, "record {number}");
+    }
+}
+
+#[test]
+fn a_record_that_is_not_there_is_not_made_up() {
+    let folder = Folder::new("cat-none");
+    let log = written(&[b"1", b"2"]);
+    let file = folder.file("times", &log);
+    for number in ["3", "4", "1000", "18446744073709551615"] {
+        let named = grouped(number.parse().unwrap());
+        run!("cat", &file, number).failed(2, &["times", &named, "2 records can be read"]);
+    }
+    run!("cat", &file, "99999999999999999999999").failed(2, &["times", "no record"]);
+    let one = folder.file("times", &log[..8]);
+    run!("cat", &one, "2").failed(2, &["times", "no record 2", "1 record can be read"]);
+    // What is in doubt may have held it.
+    let torn = folder.file("times", &log[..15]);
+    run!("cat", &torn, "2").failed(2, &["no record 2", "1 record", "7 bytes in doubt"]);
+    let mut changed = log;
+    changed[7] ^= 1;
+    let changed = folder.file("times", &changed);
+    run!("cat", &changed, "1").failed(2, &["no record 1", "0 records", "16 bytes in doubt"]);
+}
+
+#[test]
+fn a_number_is_digits_and_not_0() {
+    let folder = Folder::new("cat-number");
+    let file = folder.file("log", &written(&[b"1"]));
+    run!("cat", &file, "0").failed(2, &["cat", "from 1"]);
+    for number in ["", "x", "1x", "+1", "1.0", " 1", "0x1", "\u{0661}"] {
+        run!("cat", &file, number).failed(2, &["cat", "number", number]);
+    }
+    run!("cat", &file, "-1").failed(2, &["cat", "-1"]);
+}
+
+#[test]
+fn a_doubt_before_the_record_is_told_and_one_behind_it_is_not() {
+    let folder = Folder::new("cat-doubt");
+    // Block 2 is in doubt; behind it stand records 2 and 3 of those that can be read.
+    let mut log = written(&vec![vec![8; 32_761]; 3]);
+    log.extend(written(&[b"third"]));
+    log[32_768 + 9] ^= 1;
+    let found = Found::in_log(&log);
+    assert_eq!((found.records.len(), found.skips.len()), (3, 1));
+    let file = folder.file("times", &log);
+    assert_eq!(run!("cat", &file, "1").done().out, vec![8; 32_761]);
+    for number in ["2", "3"] {
+        let ran = run!("cat", &file, number);
+        ran.complained(1, &["times", number, "32,768 bytes", "in doubt"]);
+    }
+    assert_eq!(run!("cat", &file, "3").out, b"third");
+    // A torn tail is behind all records.
+    let torn = folder.file("times", &written(&["first", "second"])[..20]);
+    assert_eq!(run!("cat", &torn, "1").done().out, b"first");
+}
+
+#[test]
+fn of_damaged_logs_every_record_comes_out_with_the_right_status() {
+    let mut random = Random::new();
+    println!("{random}");
+    let folder = Folder::new("cat-damaged");
+    let mut logs = long_logs(&mut random, 6);
+    logs.push(mixed_log());
+    for log in logs {
+        let file = folder.file("log", &log);
+        let found = Found::in_log(&log);
+        let doubt = found.doubtful();
+        for (i, (range, bytes)) in found.records.iter().enumerate() {
+            let ran = run!("cat", &file, (i + 1).to_string());
+            let doubt = doubt.iter().any(|doubt| doubt.start < range.start);
+            assert_eq!(ran.status, Some(i32::from(doubt)), "{range:?}: {}", ran.err);
+            assert_eq!(ran.err.is_empty(), !doubt, "{range:?}: {}", ran.err);
+            assert!(ran.out == *bytes, "{range:?}");
+        }
+        let beyond = (found.records.len() + 1).to_string();
+        assert_eq!(run!("cat", &file, beyond).status, Some(2));
+    }
+}
