@@ -15,13 +15,15 @@ use std::io::{self, IsTerminal, Write};
 use std::path::Path;
 
 pub fn append(path: &OsString, new: bool) -> Result<Status, Trouble> {
-    // Before the record is read, so that a wrong name shows before it is typed.
-    let old = if new {
-        absent(path)?
-    } else {
-        Some(existing(path)?)
+    // Before the record is read, so that a wrong name shows before it is typed; and again after it,
+    // since by then the name may stand for another file.
+    let look = || match new {
+        true => absent(path),
+        false => existing(path).map(Some),
     };
+    look()?;
     let record = record_from_input()?;
+    let old = look()?;
     let mut log = match &old {
         Some(file) => taken(file, path)?,
         None => Vec::new(),
