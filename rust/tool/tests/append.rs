@@ -14,6 +14,7 @@ use std::os::unix::fs::{symlink, PermissionsExt};
 use std::path::Path;
 use std::process::{Command, Stdio};
 use std::thread;
+use std::time::Duration;
 
 fn append(file: &Path, record: &[u8]) -> Ran {
     feed!(record; "append", file)
@@ -246,6 +247,40 @@ fn a_journal_that_another_program_has_locked_is_refused() {
     assert_eq!(bytes_of(&file), written(&[b"1", b"2"]));
 }
 
+/// Takes the lock as soon as the file is there, which is before or after the tool does. If before,
+/// the tool has to keep off.
+#[test]
+fn a_new_journal_is_locked_before_it_is_written() {
+    let folder = Folder::new("append-new-locked");
+    let record = vec![7; 200_000];
+    for round in 0..20 {
+        let path = folder.join(format!("log-{round}"));
+        let ran = thread::scope(|scope| {
+            let run = scope.spawn(|| append_new(&path, &record));
+            let other = loop {
+                let ended = run.is_finished();
+                match File::open(&path) {
+                    Ok(file) => break file,
+                    Err(_) => assert!(!ended, "no file"),
+                }
+            };
+            let first = other.try_lock().is_ok();
+            let length = other.metadata().expect("the journal").len();
+            (run.join().expect("an end"), first && length == 0)
+        });
+        match ran {
+            (ran, true) => {
+                ran.failed(2, &["nothing was appended", "locked"]);
+                assert_eq!(bytes_of(&path), b"");
+            }
+            (ran, false) => {
+                ran.done();
+                assert!(bytes_of(&path) == written(&[&record]));
+            }
+        }
+    }
+}
+
 #[test]
 fn appends_at_the_same_time_neither_mix_nor_lose_a_record() {
     let folder = Folder::new("append-crowd");
@@ -276,6 +311,48 @@ fn appends_at_the_same_time_neither_mix_nor_lose_a_record() {
             records.len(),
             accepted.len()
         );
+    }
+}
+
+/// Starts an append, and when it waits for the record does something, and only then gives it one.
+fn meanwhile(words: &[&str], file: &Path, something: impl FnOnce()) -> Ran {
+    let mut command = tool();
+    command.arg("append").args(words).arg(file);
+    command.stdin(Stdio::piped()).stdout(Stdio::piped());
+    let child = command.stderr(Stdio::piped()).spawn().expect("the tool");
+    thread::sleep(Duration::from_millis(100));
+    something();
+    finish(child, b"mine".to_vec())
+}
+
+#[test]
+fn what_happens_while_the_record_is_typed_is_not_overlooked() {
+    let folder = Folder::new("append-meanwhile");
+    let file = folder.file("log", &written(&["first"]));
+    let more = written(&["first", "second"]);
+    let change = |bytes: &[u8]| fs::write(&file, bytes).expect("the journal");
+    meanwhile(&[], &file, || change(&more)).done();
+    assert_eq!(bytes_of(&file), written(&["first", "second", "mine"]));
+
+    meanwhile(&[], &file, || change(&more[..15])).failed(1, &["NOT WHOLE"]);
+    assert_eq!(bytes_of(&file), more[..15]);
+
+    // Another file under the name: the record is not to be lost with the old one.
+    change(&more);
+    let other = folder.file("other", &written(&["other"]));
+    meanwhile(&[], &file, || {
+        fs::rename(&other, &file).expect("a new name")
+    })
+    .done();
+    assert_eq!(bytes_of(&file), written(&["other", "mine"]));
+
+    let remove = || fs::remove_file(&file).expect("the journal");
+    meanwhile(&[], &file, remove).failed(2, &["no such file"]);
+    assert_eq!(folder.names(), [""; 0]);
+    for there in [b"".to_vec(), more] {
+        meanwhile(&["--new"], &file, || change(&there)).failed(2, &["already"]);
+        assert_eq!(bytes_of(&file), there);
+        fs::remove_file(&file).expect("the journal");
     }
 }
 
