@@ -4,7 +4,7 @@
 mod common;
 
 use common::expect::{count, dumped, longest_log, written, Found};
-use common::files::{as_nobody, Folder};
+use common::files::{as_nobody, release, Folder};
 use common::{fed, ran, tool, Ran};
 use std::ffi::OsString;
 use std::fs;
@@ -137,7 +137,9 @@ fn a_pipe_is_read_like_a_file() {
     let log = written(&[b"1", b"2"]);
     std::thread::scope(|scope| {
         scope.spawn(|| fs::write(&fifo, &log).expect("the pipe"));
-        assert_eq!(run!("dump", &fifo).done().text(), dumped(&log, 262_144));
+        let ran = run!("dump", &fifo);
+        release(&fifo);
+        assert_eq!(ran.done().text(), dumped(&log, 262_144));
     });
 }
 

@@ -202,14 +202,15 @@ fn copy_all(from: &Path, to: &Path) {
     }
 }
 
-/// The archive that the tool under test was linked with.
+/// The archive that the tool under test was linked with: the last that cargo copied.
 fn archive() -> PathBuf {
     let built = Path::new(env!("CARGO_BIN_EXE_mellansko")).with_file_name("build");
     let folders = fs::read_dir(built).expect("cargo's folder");
     let archives = folders.map(|entry| entry.expect("an entry").path().join("out/libmellansko.a"));
+    let written = |path: &PathBuf| fs::metadata(path).and_then(|file| file.modified()).ok();
     archives
-        .into_iter()
-        .find(|path| path.is_file())
+        .filter(|path| path.is_file())
+        .max_by_key(written)
         .expect("the archive")
 }
 

@@ -5,7 +5,7 @@ mod common;
 
 use common::damage::mixed_log;
 use common::expect::{without_codes, written};
-use common::files::Folder;
+use common::files::{release, Folder};
 use common::terminal::{shown, terminal};
 use common::{fed, finish, tool, Ran};
 use std::fs::{self, File};
@@ -88,9 +88,14 @@ fn a_long_name_keeps_progress_on_one_row() {
         .stderr(far);
     let child = command.spawn().expect("the tool");
     drop(command);
-    let to = File::options().write(true).open(&fifo).expect("the pipe");
-    slowly(to, &written(&vec![[1; 10]; 100]));
-    finish(child, Vec::new());
+    thread::scope(|scope| {
+        scope.spawn(|| {
+            let to = File::options().write(true).open(&fifo).expect("the pipe");
+            slowly(to, &written(&vec![[1; 10]; 100]));
+        });
+        finish(child, Vec::new());
+        release(&fifo);
+    });
     let showing = showing.recv().expect("what was shown");
     assert!(showing.contains("land-: "), "{showing:?}");
     for line in showing.split(ERASE) {

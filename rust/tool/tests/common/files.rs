@@ -65,6 +65,12 @@ pub fn left_out(why: &str) {
     writeln!(io::stderr(), "LEFT OUT: {why}").expect("standard error");
 }
 
+/// Opens both ends of a named pipe, so that nobody waits for the other any more.
+pub fn release(fifo: &Path) {
+    let both = fs::File::options().read(true).write(true).open(fifo);
+    drop(both.expect("the pipe"));
+}
+
 /// A folder with links to these programs, to be all of a PATH. None if one of them is missing.
 pub fn programs(folder: &Path, names: &[&str]) -> Option<PathBuf> {
     let bin = folder.join("bin");
