@@ -1,0 +1,77 @@
+//! `mellansko append` on a disk that fails, and beside a program that takes no lock.
+
+mod common;
+
+use common::expect::written;
+use common::files::{left_out, Folder};
+use common::{fed, ran, tool, Ran};
+use std::fs;
+use std::path::{Path, PathBuf};
+use std::process::{Command, Stdio};
+
+/// The calls of `common/faults.rs`, built for LD_PRELOAD. None where its numbers of calls are not
+/// the system's.
+fn faults(folder: &Folder) -> Option<PathBuf> {
+    if !cfg!(all(target_os = "linux", target_arch = "x86_64")) {
+        left_out("a disk that fails: only for Linux on x86-64");
+        return None;
+    }
+    let library = folder.join("faults.so");
+    let source = Path::new(env!("CARGO_MANIFEST_DIR")).join("tests/common/faults.rs");
+    let mut rustc = Command::new("rustc");
+    rustc.args(["--edition", "2021", "--crate-type", "cdylib", "-o"]);
+    rustc.arg(&library).arg(source).stdin(Stdio::null());
+    let built = ran(&mut rustc);
+    assert_eq!(built.status, Some(0), "{}", built.err);
+    Some(library)
+}
+
+fn append(library: &Path, words: &[&str], file: &Path, fault: (&str, &str)) -> Ran {
+    let mut command = tool();
+    command.arg("append").args(words).arg(file);
+    command.env("LD_PRELOAD", library).env(fault.0, fault.1);
+    fed(&mut command, b"mine")
+}
+
+#[test]
+fn a_record_that_does_not_reach_the_disk_is_taken_back() {
+    let folder = Folder::new("faults-disk");
+    let Some(library) = faults(&folder) else {
+        return;
+    };
+    let before = written(&["first"]);
+    let file = folder.file("log", &before);
+    let failing = ("FAIL_FSYNC", "1");
+    append(&library, &[], &file, failing).failed(2, &["log", "nothing was appended", "written"]);
+    assert_eq!(fs::read(&file).expect("the journal"), before);
+    // A new file's name has to reach it too, as the second.
+    let new = folder.join("new");
+    for failing in ["1", "2"] {
+        let ran = append(&library, &["--new"], &new, ("FAIL_FSYNC", failing));
+        ran.failed(2, &["new", "nothing was appended", "written"]);
+        assert!(!new.exists());
+    }
+    append(&library, &["--new"], &new, ("FAIL_FSYNC", "3")).done();
+    append(&library, &[], &file, ("FAIL_FSYNC", "2")).done();
+    assert_eq!(
+        fs::read(&file).expect("the journal"),
+        written(&["first", "mine"])
+    );
+}
+
+#[test]
+fn what_another_program_writes_after_the_reading_is_not_written_behind() {
+    let folder = Folder::new("faults-grow");
+    let Some(library) = faults(&folder) else {
+        return;
+    };
+    let before = written(&["first"]);
+    let file = folder.file("log", &before);
+    let name = file.to_str().expect("a name in UTF-8");
+    let ran = append(&library, &[], &file, ("GROW", name));
+    ran.failed(2, &["log", "nothing was appended", "another program wrote"]);
+    assert_eq!(
+        fs::read(&file).expect("the journal"),
+        [&before[..], b"x"].concat()
+    );
+}
