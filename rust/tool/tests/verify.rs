@@ -109,7 +109,7 @@ fn blocks_apart_are_listed_one_by_one() {
     assert!(first.contains("in blocks 2, 5 to 7 and 9 of 9"), "{first}");
 }
 
-/// All at once, so that it is quick: the status alone is asked for by the next test.
+/// All at once, so that it is quick.
 #[test]
 fn of_many_damaged_logs_each_doubt_is_listed_and_nothing_else() {
     let mut random = Random::new();
@@ -213,28 +213,25 @@ fn the_status_alone_tells_a_damaged_log_from_a_whole_one() {
     let mut random = Random::new();
     println!("{random}");
     let folder = Folder::new("verify-status");
-    let (mut whole, mut doubt) = (Vec::new(), Vec::new());
+    let (mut whole, mut doubtful) = (Vec::new(), Vec::new());
     for (i, log) in small_logs(&mut random).into_iter().enumerate() {
         let file = folder.file(format!("{i}"), &log);
-        let found = Found::in_log(&log);
-        // A run for each would take long, and whole ones can be asked for together.
-        match found.status() {
+        let ran = run!("verify", &file);
+        let status = Found::in_log(&log).status();
+        assert_eq!(ran.status, Some(status), "{log:x?}: {}", ran.text());
+        match status {
             0 => whole.push(file),
-            _ if i % 4 == 0 => doubt.push((file, log)),
-            _ => {}
+            _ => doubtful.push(file),
         }
     }
     let all_whole = ran(tool().arg("verify").args(&whole));
     let expected = format!("All {} journals are whole.", grouped(whole.len()));
     assert_eq!(all_whole.done().lines()[0], expected);
-    assert!(doubt.len() > 100);
-    for (file, log) in doubt {
-        let ran = run!("verify", &file);
-        assert_eq!(ran.status, Some(1), "{log:x?}: {}", ran.text());
-        // Among whole ones too.
-        if random.below(10) == 0 {
-            assert_eq!(run!("verify", &whole[0], &file, &whole[1]).status, Some(1));
-        }
+    // One among whole ones is enough, wherever it stands.
+    for file in doubtful.iter().step_by(20) {
+        let mut files = whole.clone();
+        files.insert(random.below(whole.len() + 1), file.clone());
+        assert_eq!(ran(tool().arg("verify").args(&files)).status, Some(1));
     }
 }
 
