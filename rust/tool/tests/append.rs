@@ -282,6 +282,24 @@ fn a_new_journal_is_locked_before_it_is_written() {
 }
 
 #[test]
+fn of_several_that_begin_the_same_journal_one_does() {
+    let folder = Folder::new("append-begin");
+    for round in 0..6 {
+        let file = folder.join(format!("log-{round}"));
+        let accepted: Vec<Vec<u8>> = thread::scope(|scope| {
+            let one = |i: u8| (append_new(&file, &[i; 1_000]).status == Some(0)).then_some(i);
+            let runs: Vec<_> = (0..6).map(|i| scope.spawn(move || one(i))).collect();
+            let ends = runs
+                .into_iter()
+                .filter_map(|run| run.join().expect("an end"));
+            ends.map(|i| vec![i; 1_000]).collect()
+        });
+        assert_eq!(accepted.len(), 1);
+        assert!(bytes_of(&file) == written(&accepted));
+    }
+}
+
+#[test]
 fn appends_at_the_same_time_neither_mix_nor_lose_a_record() {
     let folder = Folder::new("append-crowd");
     for round in 0..6 {
