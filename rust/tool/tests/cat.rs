@@ -77,7 +77,7 @@ fn a_doubt_before_the_record_is_told_and_one_behind_it_is_not() {
     assert_eq!(run!("cat", &file, "1").done().out, vec![8; 32_761]);
     for number in ["2", "3"] {
         let ran = run!("cat", &file, number);
-        ran.complained(1, &["times", number, "32,768 bytes", "in doubt"]);
+        ran.complained(1, &["times", number, "before it 32,768 bytes are in doubt"]);
     }
     assert_eq!(run!("cat", &file, "3").out, b"third");
     // A torn tail is behind all records.

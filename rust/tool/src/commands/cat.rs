@@ -43,7 +43,7 @@ fn found(source: &Source, number: usize, doubt: usize) -> Status {
         return Status::Whole;
     }
     note(&format!(
-        "{}: record {} of those that can be read, but maybe a later one of those that were written: {} before it \
+        "{}: record {} of those that can be read, but maybe a later one of those that were written: before it {} \
          in doubt",
         shown(source.name()),
         grouped(number),
