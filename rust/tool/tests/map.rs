@@ -9,9 +9,10 @@ use common::files::Folder;
 use common::random::Random;
 use common::{fed, ran, tool};
 use reference::log::BLOCK;
+use std::ops::Range;
 
 /// The rows that a log is drawn in, with so many blocks a cell: the place of a row's first byte,
-/// and its cells.
+/// and its cells, each a letter and a joint.
 fn rows(found: &Found, blocks: usize) -> Vec<(String, String)> {
     let cell_bytes = blocks * BLOCK;
     let cells = found.length.div_ceil(cell_bytes);
@@ -20,8 +21,7 @@ fn rows(found: &Found, blocks: usize) -> Vec<(String, String)> {
     };
     let mut rows = Vec::new();
     for cell in 0..cells {
-        let skipped =
-            |(range, _): &(std::ops::Range<usize>, u8)| in_cell(cell, range.start, range.end);
+        let skipped = |(range, _): &(Range<usize>, u8)| in_cell(cell, range.start, range.end);
         let doubt = found.skips.iter().any(skipped);
         let torn = found
             .torn
@@ -33,8 +33,7 @@ fn rows(found: &Found, blocks: usize) -> Vec<(String, String)> {
             (true, true) => 'X',
         };
         let end = (cell + 1) * cell_bytes;
-        let runs_on =
-            |(range, _): &(std::ops::Range<usize>, Vec<u8>)| range.start < end && range.end > end;
+        let runs_on = |(range, _): &(Range<usize>, Vec<u8>)| range.start < end && range.end > end;
         let joint = if found.records.iter().any(runs_on) {
             '-'
         } else {

@@ -14,10 +14,10 @@ use std::io::{Read, Write};
 use std::process::{Child, Command, Stdio};
 use std::sync::mpsc::{channel, Receiver};
 use std::thread;
-use std::time::Duration;
+use std::time::{Duration, Instant};
 
-/// Longer than any run takes, on a machine that has other things to do.
-const PATIENCE: Duration = Duration::from_secs(60);
+/// Longer than any run takes, a build among them, on a machine that has other things to do.
+const PATIENCE: Duration = Duration::from_secs(100);
 
 /// The tool, with nothing on standard input and no wishes as to colour.
 pub fn tool() -> Command {
@@ -109,7 +109,9 @@ pub fn finish(mut child: Child, input: Vec<u8>) -> Ran {
         stdin.map(|mut stdin| stdin.write_all(&input))
     });
     let (out, err) = (gather(child.stdout.take()), gather(child.stderr.take()));
-    let (Ok(out), Ok(err)) = (out.recv_timeout(PATIENCE), err.recv_timeout(PATIENCE)) else {
+    let deadline = Instant::now() + PATIENCE;
+    let wait = |from: Receiver<_>| from.recv_timeout(deadline - Instant::now().min(deadline));
+    let (Ok(out), Ok(err)) = (wait(out), wait(err)) else {
         child.kill().expect("it can be ended");
         panic!("it hangs");
     };
