@@ -118,10 +118,23 @@ fn each_refuses(file: &Path, name: &str) {
     }
 }
 
+/// Of what never ends no more is read than it takes to refuse it.
 #[test]
-fn an_endless_file_is_refused_and_soon() {
+fn an_endless_file_is_refused_soon_and_in_little_memory() {
     let begun = Instant::now();
     each_refuses(Path::new("/dev/zero"), "/dev/zero");
+    let folder = Folder::new("files-endless");
+    folder.file("log", b"");
+    for (words, says) in [
+        (["verify", "/dev/zero"], ["/dev/zero", "refusal 1"]),
+        (["verify", "-"], ["standard input", "refusal 1"]),
+        (["append", "log"], ["log", "refusal 3"]),
+    ] {
+        let mut shell = Command::new("sh");
+        let script = "ulimit -v 200000; exec \"$@\" </dev/zero";
+        shell.args(["-c", script, "sh", env!("CARGO_BIN_EXE_mellansko")]);
+        ran(shell.args(words).current_dir(&*folder)).failed(2, &says);
+    }
     assert!(begun.elapsed() < Duration::from_secs(20));
 }
 
