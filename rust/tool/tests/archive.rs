@@ -128,7 +128,9 @@ fn rt_is_called_if_the_archive_is_missing_or_older_than_a_source_and_only_then()
         set_age(&source, 60);
     }
     // Of the same age, it may have been written before the source.
-    let time = fs::metadata(build.root.join("crates.txt")).and_then(|file| file.modified());
+    let source = build.root.join("crates.txt");
+    set_age(&source, 50);
+    let time = fs::metadata(source).and_then(|file| file.modified());
     build.add_archive(30);
     let archive = fs::File::open(build.archive()).expect("the archive");
     archive
