@@ -17,13 +17,16 @@ fn one_at_a_time() -> MutexGuard<'static, ()> {
     ONE.lock().unwrap_or_else(PoisonError::into_inner)
 }
 
-const SOURCES: [&str; 6] = [
+const SOURCES: [&str; 9] = [
     "crates/log_step/src/look.rt",
     "crates.txt",
-    "rust/mellansko/src/lib.rs",
-    "rust/tool/src/main.rs",
     "rust/Cargo.toml",
     "rust/Cargo.lock",
+    "rust/mellansko/Cargo.toml",
+    "rust/mellansko/build.rs",
+    "rust/mellansko/src/lib.rs",
+    "rust/tool/Cargo.toml",
+    "rust/tool/src/main.rs",
 ];
 
 /// The script in a folder of its own, an hour old like the sources, and a PATH without cargo.
