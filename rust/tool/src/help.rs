@@ -29,6 +29,9 @@ blocks, of 32,768 bytes, count from 1.
 A whole journal has no damage and no torn tail. If whole records are cut off at its end, nothing
 in the file shows that there were more: compare the number of records with what you expect.
 
+A torn tail may be the record that was being written when the power went. A damaged length in the
+last block looks the same, and then the tail may hold records that were written whole.
+
 FILE may be - for standard input; behind -- a name may begin with a dash.
 
 Exit status: 0 all are whole; 1 at least one is in doubt; 2 at least one could not be read.

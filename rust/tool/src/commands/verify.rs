@@ -71,7 +71,7 @@ fn report(source: &Source, survey: &Survey, output: &mut Output) -> Result<(), T
     }
     if let Some(start) = survey.torn {
         output.line(&format!(
-            "  {}: torn tail, what was begun here is not all there",
+            "  {}: torn tail, the journal ends inside of what starts here",
             range(start, survey.length)
         ))?;
     }
