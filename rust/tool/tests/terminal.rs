@@ -6,7 +6,7 @@ mod common;
 use common::damage::mixed_log;
 use common::expect::{without_codes, written};
 use common::files::{release, Folder};
-use common::terminal::{shown, terminal};
+use common::terminal::{is_there, shown, terminal};
 use common::{fed, finish, tool, Ran};
 use std::fs::{self, File};
 use std::io::Write;
@@ -41,6 +41,9 @@ const ERASE: &str = "\r\x1b[K";
 
 #[test]
 fn slow_reading_shows_how_far_it_is_and_leaves_nothing_behind() {
+    if !is_there() {
+        return;
+    }
     let log = mixed_log();
     for words in [
         &["verify", "-"][..],
@@ -71,6 +74,9 @@ fn slow_reading_shows_how_far_it_is_and_leaves_nothing_behind() {
 
 #[test]
 fn a_long_name_keeps_progress_on_one_row() {
+    if !is_there() {
+        return;
+    }
     let folder = Folder::new("terminal-name");
     let fifo = folder.join("Jämtland-".repeat(20));
     assert!(Command::new("mkfifo")
@@ -133,6 +139,9 @@ fn drawn(command: &mut Command, log: &[u8]) -> String {
 
 #[test]
 fn a_terminal_gets_colours_unless_they_are_unwanted() {
+    if !is_there() {
+        return;
+    }
     let log = mixed_log();
     let plain = fed(tool().args(["map", "-"]), &log);
     let map = || {
@@ -156,6 +165,9 @@ fn a_terminal_gets_colours_unless_they_are_unwanted() {
 
 #[test]
 fn a_record_can_be_typed() {
+    if !is_there() {
+        return;
+    }
     let folder = Folder::new("terminal-typed");
     let file = folder.join("log");
     let (mut near, far) = terminal();

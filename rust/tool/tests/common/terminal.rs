@@ -1,10 +1,12 @@
 //! A terminal for the tool to run on, of which the test holds the other end.
 
+use super::files::left_out;
 use std::ffi::{c_char, c_int, CStr};
 use std::fs::{File, OpenOptions};
 use std::io::Read;
 use std::os::fd::AsRawFd;
 use std::os::unix::fs::OpenOptionsExt;
+use std::path::Path;
 use std::sync::mpsc::{channel, Receiver};
 use std::thread;
 
@@ -12,6 +14,15 @@ extern "C" {
     fn grantpt(fd: c_int) -> c_int;
     fn unlockpt(fd: c_int) -> c_int;
     fn ptsname_r(fd: c_int, name: *mut c_char, length: usize) -> c_int;
+}
+
+/// Whether this system has terminals to give. Says so if it has not.
+pub fn is_there() -> bool {
+    let there = File::open("/dev/ptmx").is_ok() && Path::new("/dev/pts").is_dir();
+    if !there {
+        left_out("what takes a terminal: there is no /dev/ptmx or no /dev/pts");
+    }
+    there
 }
 
 /// The test's end, and the tool's.
