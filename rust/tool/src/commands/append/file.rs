@@ -1,0 +1,143 @@
+//! The file that a record is appended to: looked for, locked, and made longer.
+
+use crate::journal;
+use crate::progress::Progress;
+use crate::trouble::Trouble;
+use crate::words::{grouped, shown};
+use mellansko::LONGEST_LOG;
+use std::ffi::OsStr;
+use std::fs::{self, File, OpenOptions, TryLockError};
+use std::io::{self, Write};
+use std::path::Path;
+
+/// The file, opened, or none if it is to be a new one.
+pub fn found(path: &OsStr, new: bool) -> Result<Option<File>, Trouble> {
+    match new {
+        true => absent(path).map(|()| None),
+        false => existing(path).map(Some),
+    }
+}
+
+pub fn nothing_appended(path: &OsStr, why: &str) -> Trouble {
+    Trouble::of(path, &format!("nothing was appended: {why}"))
+}
+
+/// Makes sure that there is no such file yet, and a folder for it.
+fn absent(path: &OsStr) -> Result<(), Trouble> {
+    let trouble = |error| Trouble::io(path, "be begun", &error);
+    if fs::exists(path).map_err(trouble)? {
+        return Err(there_already(path));
+    }
+    if fs::symlink_metadata(path).is_ok() {
+        let why = "it is a link to a file that is not there. Name that file instead";
+        return Err(nothing_appended(path, why));
+    }
+    let folder = folder_of(path);
+    if !fs::exists(folder).map_err(trouble)? {
+        let folder = shown(folder.as_os_str());
+        let why = format!("there is no folder {folder}. Make it first, or check the name");
+        return Err(nothing_appended(path, &why));
+    }
+    Ok(())
+}
+
+fn there_already(path: &OsStr) -> Trouble {
+    nothing_appended(path, "it is there already. To add to it, leave out --new")
+}
+
+fn folder_of(path: &OsStr) -> &Path {
+    match Path::new(path).parent() {
+        Some(folder) if !folder.as_os_str().is_empty() => folder,
+        _ => Path::new("."),
+    }
+}
+
+fn existing(path: &OsStr) -> Result<File, Trouble> {
+    let trouble = |error: io::Error| match error.kind() {
+        io::ErrorKind::NotFound => nothing_appended(
+            path,
+            "there is no such file. Check the name; to begin a new journal, add --new",
+        ),
+        _ => Trouble::io(path, "be appended to", &error),
+    };
+    let metadata = fs::metadata(path).map_err(trouble)?;
+    if metadata.is_dir() {
+        return Err(trouble(io::ErrorKind::IsADirectory.into()));
+    }
+    if !metadata.is_file() {
+        return Err(nothing_appended(path, "it is not a plain file"));
+    }
+    let file = OpenOptions::new().read(true).append(true).open(path);
+    file.map_err(trouble)
+}
+
+/// Keeps every other append off the file until this one ends.
+fn lock(file: &File, path: &OsStr) -> Result<(), Trouble> {
+    match file.try_lock() {
+        Ok(()) => Ok(()),
+        Err(TryLockError::WouldBlock) => {
+            let why = "another program has it locked. Try again when that is done";
+            Err(nothing_appended(path, why))
+        }
+        Err(TryLockError::Error(error)) => Err(Trouble::io(path, "be locked", &error)),
+    }
+}
+
+/// What the file holds, which no other append changes until this one ends.
+pub fn taken(file: &File, path: &OsStr) -> Result<Vec<u8>, Trouble> {
+    lock(file, path)?;
+    journal::read(file, path, LONGEST_LOG, &mut Progress::new())
+        .map_err(|error| Trouble::io(path, "be read", &error))
+}
+
+/// Puts the added bytes behind those that the file has; it gets all of them or none.
+pub fn store(old: Option<File>, path: &OsStr, used: usize, added: &[u8]) -> Result<(), Trouble> {
+    let new = old.is_none();
+    let trouble = |error: io::Error| Trouble::io(path, "be written", &error);
+    let file = match old {
+        Some(file) => file,
+        None => begun(path)?,
+    };
+    if file.metadata().map_err(trouble)?.len() != used as u64 {
+        let why = "another program wrote to it meanwhile. Try again";
+        return Err(nothing_appended(path, why));
+    }
+    let Err(error) = put(&file, path, added, new) else {
+        return Ok(());
+    };
+    let undone = match new {
+        true => fs::remove_file(path),
+        false => file.set_len(used as u64),
+    };
+    Err(match undone {
+        Ok(()) => nothing_appended(path, &format!("it could not be written ({error})")),
+        Err(_) => Trouble::of(
+            path,
+            &format!(
+                "could not be written ({error}), nor be cut back: what it holds from byte {} on may not be all there",
+                grouped(used)
+            ),
+        ),
+    })
+}
+
+fn begun(path: &OsStr) -> Result<File, Trouble> {
+    let mut options = OpenOptions::new();
+    let file = options.append(true).create_new(true).open(path);
+    let file = file.map_err(|error| match error.kind() {
+        io::ErrorKind::AlreadyExists => there_already(path),
+        _ => Trouble::io(path, "be begun", &error),
+    })?;
+    lock(&file, path)?;
+    Ok(file)
+}
+
+/// Behind what the file holds, and down to the disk; a new file's name too.
+fn put(mut file: &File, path: &OsStr, added: &[u8], new: bool) -> io::Result<()> {
+    file.write_all(added)?;
+    file.sync_all()?;
+    if new {
+        File::open(folder_of(path))?.sync_all()?;
+    }
+    Ok(())
+}
