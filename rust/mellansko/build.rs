@@ -48,9 +48,10 @@ fn is_newer(archive: &Path, sources: &[PathBuf]) -> Result<bool, String> {
     Ok(true)
 }
 
-/// When a file, or the folder or any file in it, was last changed.
+/// When a file, or the folder or any file in it, was last changed. Links are not followed: an
+/// editor's may lead nowhere.
 fn last_change(path: &Path) -> Result<SystemTime, String> {
-    let metadata = found(fs::metadata(path), path)?;
+    let metadata = found(fs::symlink_metadata(path), path)?;
     let mut last = found(metadata.modified(), path)?;
     if metadata.is_dir() {
         for entry in found(fs::read_dir(path), path)? {

@@ -5,8 +5,11 @@ use std::fmt;
 /// The next thing in a log.
 #[derive(Clone, Copy, Debug, PartialEq, Eq)]
 pub enum Next {
+    /// A record, all of whose fragments are sound.
     Record(Record),
+    /// A range in doubt.
     Skip(Skip),
+    /// The log's end: there is nothing behind it.
     End(Tail),
 }
 
@@ -14,11 +17,13 @@ pub enum Next {
 /// fragments, each a header of 7 bytes and then data, of which none crosses a block's end.
 #[derive(Clone, Copy, Debug, PartialEq, Eq)]
 pub struct Record {
+    /// Where its first header stands.
     pub start: usize,
-    /// Exclusive.
+    /// Where its last fragment ends, exclusive.
     pub end: usize,
     /// How many bytes the record itself has, without headers.
     pub length: usize,
+    /// Where they are.
     pub stored: Stored,
 }
 

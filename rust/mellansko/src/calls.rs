@@ -50,17 +50,19 @@ pub fn next(
             length: c,
             stored: match d {
                 0 => Stored::Whole(e),
-                _ => Stored::Gathered,
+                1 => Stored::Gathered,
+                _ => unproved(&answer),
             },
         }),
         1 => Next::Skip(Skip {
             start: a,
             end: b,
-            reason: numbered(Reason::ALL, &answer, 3),
+            reason: numbered(Reason::ALL, Reason::number, &answer, 3),
         }),
         2 => Next::End(match a {
             0 => Tail::Clean,
-            _ => Tail::Torn(b),
+            1 => Tail::Torn(b),
+            _ => unproved(&answer),
         }),
         3 => return Err(refusal(&answer)),
         _ => unproved(&answer),
@@ -88,15 +90,16 @@ pub fn mask(crc: u32) -> u32 {
 
 fn refusal(answer: &Numbers) -> Refusal {
     Refusal {
-        condition: numbered(Condition::ALL, answer, 1),
+        condition: numbered(Condition::ALL, Condition::number, answer, 1),
         given: answer[2] as usize,
     }
 }
 
-/// The one of a list, numbered from 1 on, that a number of the answer means.
-fn numbered<T: Copy>(all: &[T], answer: &Numbers, at: usize) -> T {
-    let index = (answer[at] as usize).wrapping_sub(1);
-    *all.get(index).unwrap_or_else(|| unproved(answer))
+/// The one of a list whose number stands in the answer.
+fn numbered<T: Copy>(all: &[T], number: fn(T) -> u8, answer: &Numbers, at: usize) -> T {
+    let mut all = all.iter().copied();
+    all.find(|&one| u64::from(number(one)) == answer[at])
+        .unwrap_or_else(|| unproved(answer))
 }
 
 /// The proved calls give no such answer: what is linked is not them.

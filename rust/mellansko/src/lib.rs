@@ -1,8 +1,8 @@
 //! The writer and the reader of journals in the LevelDB log format, proved in Rattle, for Rust.
 //!
 //! A journal is a run of bytes. [`append`] writes a record into one that is lent. [`Reading`] goes
-//! over one from its first byte to its end, and says of every byte whether it belongs to a record,
-//! to a range that is in doubt, or to a tail that is torn:
+//! over one from its first byte to its end, and says which bytes are records, which are in doubt and
+//! why, and where a torn tail starts; what is left are up to six that fill up a block:
 //!
 //! ```
 //! use mellansko::{Answer, Reading, Reason, Tail};

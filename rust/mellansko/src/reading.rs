@@ -21,11 +21,16 @@ pub struct Reading<'log> {
 /// What a [`Reading`] gives.
 #[derive(Clone, Debug, PartialEq, Eq)]
 pub enum Answer<'a> {
+    /// A record, all of whose fragments are sound.
     Record {
+        /// Where it stands.
         record: Record,
+        /// What it is.
         bytes: Cow<'a, [u8]>,
     },
+    /// A range in doubt.
     Skip(Skip),
+    /// The log's end, which is the last answer.
     End(Tail),
 }
 
