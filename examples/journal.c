@@ -19,7 +19,7 @@ static const char *in_words(uint64_t reason)
 {
     switch (reason) {
     case MELLANSKO_BAD_LENGTH: return "a stored length runs past the end of its block";
-    case MELLANSKO_BLANK: return "zeros where a record should be";
+    case MELLANSKO_BLANK: return "a header with neither type nor length, as in a stretch of zeros";
     case MELLANSKO_CHECKSUM: return "the stored checksum is not that of the bytes";
     case MELLANSKO_INTERRUPTED: return "a record that breaks off before its last piece";
     case MELLANSKO_ORPHAN: return "a piece of a record whose beginning is missing";

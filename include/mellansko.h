@@ -77,6 +77,10 @@ enum mellansko_appended {
  * each later one at the mark that the last one answered, or that its refusal gave back. What the
  * log holds makes no difference: an append at a lower mark writes over records.
  *
+ * A log that was read, from a file say, is gone on with at its length, if all of it reads with no
+ * skip and a clean end. If not, begin another log: a record behind what is in doubt may be skipped
+ * with it, and one at the start of a torn tail writes over what the tail holds.
+ *
  * The size added, by which the mark moves on: let r be the bytes left in the mark's block, 32,768
  * at its start; let p be r if r is under 7, else 0; and let a be the room for data in the first
  * fragment, 32,761 if r is under 7, else r - 7. A record of n bytes adds p + 7 + n if n is at most

@@ -38,8 +38,8 @@ pub enum Stored {
 
 impl Record {
     /// The record's bytes: a part of the log or of the buffer, never a copy. A gathered record's are
-    /// in the buffer until another call is lent it. Where they do not lie inside the slices given,
-    /// which are then not those that this record was read with, there are none.
+    /// in the buffer until another call is lent it. With slices other than those that it was read
+    /// with, they are not its bytes; where they would not lie inside, there are none.
     ///
     /// ```
     /// use mellansko::Next;
@@ -90,8 +90,18 @@ pub enum Tail {
     Clean,
     /// The log ends inside of what starts at this place. That may be a record that was being written.
     /// But a damaged length in the last block looks the same, and then records that were written
-    /// whole lie in the tail: it must not be treated as never written.
+    /// whole lie in the tail: it must not be treated as never written, and no record be appended
+    /// behind it or over it.
     Torn(usize),
+}
+
+impl fmt::Display for Tail {
+    fn fmt(&self, f: &mut fmt::Formatter) -> fmt::Result {
+        match self {
+            Tail::Clean => write!(f, "clean"),
+            Tail::Torn(start) => write!(f, "torn from {start} on"),
+        }
+    }
 }
 
 /// Why a range is skipped. The first three range from a header to the end of the block or of the
@@ -159,7 +169,7 @@ impl fmt::Display for Reason {
     fn fmt(&self, f: &mut fmt::Formatter) -> fmt::Result {
         f.write_str(match self {
             Reason::BadLength => "a stored length runs past the end of its block",
-            Reason::Blank => "zeros where a record should be",
+            Reason::Blank => "a header with neither type nor length, as in a stretch of zeros",
             Reason::Checksum => "the stored checksum is not that of the bytes",
             Reason::Interrupted => "a record that breaks off before its last piece",
             Reason::Orphan => "a piece of a record whose beginning is missing",

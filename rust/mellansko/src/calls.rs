@@ -6,6 +6,10 @@ use crate::{Condition, Next, Reason, Record, Refusal, Skip, Stored, Tail};
 /// Writes a record into a log of which the bytes up to the mark are used, and gives the new mark.
 /// The bytes outside the stretch between the two keep their values.
 ///
+/// A log that was read, from a file say, is gone on with at its length, if all of it reads with no
+/// skip and a clean end. If not, begin another log: a record behind what is in doubt may be skipped
+/// with it.
+///
 /// ```
 /// let mut log = [0xff; 64];
 /// // A record of 5 bytes takes a header of 7 as well.
