@@ -29,7 +29,11 @@ fn faults(folder: &Folder) -> Option<PathBuf> {
 fn append(library: &Path, words: &[&str], file: &Path, fault: (&str, &str)) -> Ran {
     let mut command = tool();
     command.arg("append").args(words).arg(file);
-    command.env("LD_PRELOAD", library).env(fault.0, fault.1);
+    // The library by its name and its folder: LD_PRELOAD takes no path with a space.
+    let [name, folder] = [library.file_name(), library.parent().map(Path::as_os_str)];
+    command.env("LD_PRELOAD", name.expect("a name"));
+    command.env("LD_LIBRARY_PATH", folder.expect("a folder"));
+    command.env(fault.0, fault.1);
     fed(&mut command, b"mine")
 }
 

@@ -1,8 +1,9 @@
 //! LevelDB's own log writer and reader, in the program that is made of interop/leveldb_journal.cc.
 
+use std::fs;
 use std::io::{self, Write};
 use std::path::{Path, PathBuf};
-use std::process::{Command, Output, Stdio};
+use std::process::{self, Command, Output, Stdio};
 use std::sync::OnceLock;
 
 pub struct Leveldb {
@@ -23,7 +24,7 @@ fn made() -> Option<Leveldb> {
         return None;
     }
     let source = Path::new(env!("CARGO_MANIFEST_DIR")).join("../../interop/leveldb_journal.cc");
-    let program = Path::new(env!("CARGO_TARGET_TMPDIR")).join("leveldb_journal");
+    let program = made_here("leveldb_journal");
     let mut compiler = Command::new("g++");
     compiler.args(["-std=c++17", "-O2"]).arg(source);
     // The archive, since the shared library hides the two classes.
@@ -37,14 +38,21 @@ fn made() -> Option<Leveldb> {
     Some(Leveldb { program })
 }
 
+/// A program of this run, beside which another run may make its own.
+fn made_here(name: &str) -> PathBuf {
+    Path::new(env!("CARGO_TARGET_TMPDIR")).join(format!("{name}-{}", process::id()))
+}
+
 /// What is not installed, if anything.
 fn missing() -> Option<&'static str> {
     // Fails where the header or the archive is not found, and for no other reason.
     let probe = b"#if !__has_include(<leveldb/env.h>)\n#error\n#endif\nint main() {}\n";
-    let made = Path::new(env!("CARGO_TARGET_TMPDIR")).join("leveldb_probe");
+    let made = made_here("leveldb_probe");
     let mut compiler = Command::new("g++");
     compiler.args(["-std=c++17", "-x", "c++", "-", "-l:libleveldb.a", "-o"]);
-    match run(compiler.arg(made), probe) {
+    let probed = run(compiler.arg(&made), probe);
+    let _ = fs::remove_file(made);
+    match probed {
         Err(error) if error.kind() == io::ErrorKind::NotFound => Some("g++ is not installed"),
         Err(error) => panic!("g++ did not start: {error}"),
         Ok(output) if output.status.success() => None,

@@ -8,7 +8,7 @@ use std::ops::Deref;
 use std::os::unix::fs::{symlink, MetadataExt, PermissionsExt};
 use std::os::unix::process::CommandExt;
 use std::path::{Path, PathBuf};
-use std::process::Command;
+use std::process::{self, Command};
 use std::thread;
 use std::time::{Duration, SystemTime};
 
@@ -16,9 +16,10 @@ use std::time::{Duration, SystemTime};
 pub struct Folder(PathBuf);
 
 impl Folder {
-    /// Its name is that of the test, and of nothing else.
+    /// Its name is that of the test and of the run, and of nothing else.
     pub fn new(name: &str) -> Folder {
-        let path = Path::new(env!("CARGO_TARGET_TMPDIR")).join(format!("tool-{name}"));
+        let name = format!("tool-{name}-{}", process::id());
+        let path = Path::new(env!("CARGO_TARGET_TMPDIR")).join(name);
         if let Err(error) = fs::remove_dir_all(&path) {
             assert_eq!(error.kind(), io::ErrorKind::NotFound, "{error}");
         }
