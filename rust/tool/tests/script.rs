@@ -29,6 +29,9 @@ const SOURCES: [&str; 9] = [
     "rust/tool/src/main.rs",
 ];
 
+/// Where cargo puts the tool, whatever its settings, if told for which machine it is.
+const TOOL: &str = "rust/target/x86_64-unknown-linux-gnu/release/mellansko";
+
 /// The script in a folder of its own, an hour old like the sources, and a PATH without cargo.
 struct Place {
     root: PathBuf,
@@ -53,7 +56,7 @@ impl Place {
 
     /// A tool that tells its words.
     fn add_tool(&self) {
-        let tool = self.root.join("rust/target/release/mellansko");
+        let tool = self.root.join(TOOL);
         fs::create_dir_all(tool.parent().expect("a folder")).expect("a folder");
         program(&tool, "printf '<%s>' \"$@\"; exit 1");
         set_age(&tool, 30);
@@ -135,7 +138,7 @@ fn it_builds_if_there_is_no_build_or_a_source_is_newer_and_only_then() {
         return;
     };
     // What cargo leaves as old as it was is not built again each time.
-    let tool = place.root.join("rust/target/release/mellansko");
+    let tool = place.root.join(TOOL);
     place.add_cargo("");
     place.add_tool();
     let runs = || {
@@ -154,6 +157,7 @@ fn it_builds_if_there_is_no_build_or_a_source_is_newer_and_only_then() {
             "--release",
             "--offline",
             "--locked",
+            "--target x86_64-unknown-linux-gnu",
             "mellansko-tool",
         ] {
             assert!(calls[0].contains(word), "{}", calls[0]);
@@ -190,6 +194,11 @@ fn a_build_that_fails_starts_nothing() {
     // Nor does it pass for done the next time.
     assert_eq!(place.run(&place.script(), &["x"]).status, Some(2));
     assert_eq!(place.calls().len(), 2);
+    // Nor one that leaves no tool.
+    fs::remove_file(place.root.join(TOOL)).expect("the tool");
+    place.add_cargo("");
+    assert_eq!(place.run(&place.script(), &["x"]).status, Some(2));
+    assert!(!place.root.join(TOOL).exists());
 }
 
 fn copy_all(from: &Path, to: &Path) {
