@@ -6,7 +6,7 @@ use crate::commands::Colour;
 use crate::help;
 use crate::journal::Source;
 use crate::trouble::Trouble;
-use crate::words::shown;
+use crate::words::{me, shown};
 use given::Given;
 use mellansko::LONGEST_RECORD;
 use std::ffi::{OsStr, OsString};
@@ -51,8 +51,9 @@ pub fn parse(words: impl Iterator<Item = OsString>) -> Result<Command, Trouble> 
         _ if is_help(&first) => help_on(&rest),
         Some("--version" | "-V") => Ok(Command::Say(help::VERSION.into())),
         _ => Err(Trouble::Message(format!(
-            "there is no command {}. The commands are verify, dump, map, cat and append: see mellansko --help",
-            shown(&first)
+            "there is no command {}. The commands are verify, dump, map, cat and append: see {} --help",
+            shown(&first),
+            me()
         ))),
     }
 }

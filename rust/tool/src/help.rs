@@ -3,8 +3,8 @@
 pub const VERSION: &str = concat!("mellansko ", env!("CARGO_PKG_VERSION"), "\n");
 
 pub const ALL: &str = "\
-mellansko reads and writes journals in the LevelDB log format, and never loses, invents or
-reorders anything silently. Its reader and its writer are proved; see docs/PROOF.md.
+mellansko reads and writes journals in the LevelDB log format, so that nothing is lost, invented
+or reordered silently. Its reader and its writer are proved; docs/PROOF.md says what, and what not.
 
   mellansko verify FILE..     whether journals are whole; if not, what is in doubt and why
   mellansko dump FILE         all that is in a journal, one line each
@@ -26,11 +26,13 @@ of them. Of a journal that is not whole it lists each range of bytes in doubt wi
 and where a torn tail starts. Places count from 0 and a range ends before its second number;
 blocks, of 32,768 bytes, count from 1.
 
-A whole journal has no damage and no torn tail. If whole records are cut off at its end, nothing
-in the file shows that there were more: compare the number of records with what you expect.
+A whole journal has no range in doubt and no torn tail. The up to six bytes that fill up a block
+are not judged. If whole records are cut off at its end, nothing in the file shows that there were
+more: compare the number of records with what you expect.
 
 A torn tail may be the record that was being written when the power went. A damaged length in the
-last block looks the same, and then the tail may hold records that were written whole.
+last block looks the same, and then the tail may hold records that were written whole. A record
+of more than 262,144 bytes counts as in doubt too.
 
 FILE may be - for standard input; behind -- a name may begin with a dash.
 
@@ -42,7 +44,8 @@ mellansko dump [--limit N] FILE
 
 Lists all that is in a journal in its order, one line each, with plain numbers:
 
-  R START END LENGTH    a record: its place, and the number of its own bytes
+  R START END LENGTH    a record: its place, and the number of its own bytes. The N-th of these
+                        lines is the record that mellansko cat FILE N gives
   S START END REASON    a range that is skipped since it is in doubt
   E clean               the end
   E torn START          the end, with a torn tail from START on
@@ -70,7 +73,9 @@ Draws a journal, a cell for each block of 32,768 bytes:
   -  between two cells: a record runs on from one into the other
 
   --blocks N      draw N blocks as one cell; if not given, as many as it takes for 16 rows
-  --color WHEN    always, never, or auto: on a terminal, unless NO_COLOR is set
+  --color WHEN    always, never, or auto: on a terminal, unless TERM is dumb or NO_COLOR is set
+
+The picture is up to 80 columns wide. A record of more than 262,144 bytes counts as in doubt.
 
 FILE may be - for standard input; behind -- a name may begin with a dash.
 
@@ -81,26 +86,31 @@ pub const CAT: &str = "\
 mellansko cat FILE N
 
 Writes the bytes of the N-th record to standard output, just as they were appended. The records
-that can be read count from 1. If something before the record is in doubt, that is said on
-standard error: the record may then be a later one of those that were written.
+that can be read count from 1. If something in the journal is in doubt, that is said on standard
+error: before the record, it may be a later one of those that were written; behind it, a newer one
+may have been lost. This writes all that can be read into a folder, a file each:
+
+  mkdir records
+  for n in $(seq $(mellansko dump FILE | grep -c ^R)); do mellansko cat FILE $n > records/$n; done
 
 FILE may be - for standard input; behind -- a name may begin with a dash.
 
-Exit status: 0 written, and nothing before it is in doubt; 1 written, something before it is in
-doubt; 2 there is no such record, or the file could not be read.
+Exit status: 0 written, and the journal is whole; 1 written, something in the journal is in doubt;
+2 there is no such record, or the file could not be read.
 ";
 
 pub const APPEND: &str = "\
 mellansko append [--new] FILE
 
 Appends all of standard input to a journal as one record, byte for byte, at the journal's clean
-end, and says where it stands. A journal that is not whole is refused and left as it is: what is
-in doubt should be looked at first. The file only grows; if a write fails it is cut back to what
-it was. While one append is at work, another is refused.
+end, and says where it stands. A journal that is not whole is refused and left as it is, since a
+record behind what is in doubt might not be found again: begin another. The file only grows; if a
+write fails it is cut back to what it was. While one append is at work, another is refused.
 
   --new    begin a new journal; refused if the file is there already
 
-A record has at most 262,144 bytes, a journal 16,777,216. No bytes are a record too.
+A record has at most 262,144 bytes, a journal 16,777,216. No bytes are a record too: so is what
+comes of a standard input that is closed, or of a program before a pipe that failed.
 
 Exit status: 0 appended; 1 refused, since the journal is in doubt; 2 not appended, for another
 reason.

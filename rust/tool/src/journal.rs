@@ -2,11 +2,11 @@
 
 use crate::progress::Progress;
 use crate::trouble::Trouble;
-use crate::words::{bytes, grouped, short};
+use crate::words::{bytes, grouped, me, short};
 use mellansko::{Condition, Refusal, LONGEST_LOG, LONGEST_RECORD};
 use std::ffi::{OsStr, OsString};
 use std::fs::File;
-use std::io::{self, Read};
+use std::io::{self, IsTerminal, Read};
 
 /// Where a journal comes from.
 pub enum Source {
@@ -18,7 +18,7 @@ impl Source {
     pub fn name(&self) -> &OsStr {
         match self {
             Source::File(path) => path,
-            Source::StandardInput => OsStr::new("standard input"),
+            Source::StandardInput => OsStr::new(INPUT),
         }
     }
 
@@ -29,7 +29,7 @@ impl Source {
             Source::File(path) => {
                 File::open(path).and_then(|file| read(file, self.name(), LONGEST_LOG, progress))
             }
-            Source::StandardInput => read(io::stdin().lock(), self.name(), LONGEST_LOG, progress),
+            Source::StandardInput => return read_input(LONGEST_LOG, progress),
         }
         .map_err(|error| Trouble::io(self.name(), "be read", &error))
     }
@@ -38,6 +38,19 @@ impl Source {
     pub fn refused(&self, refusal: Refusal) -> Trouble {
         Trouble::of(self.name(), &why_refused(refusal))
     }
+}
+
+const INPUT: &str = "standard input";
+
+/// Standard input, at most one byte more than so many. Nothing is shown while it is being typed.
+pub fn read_input(most: usize, progress: &mut Progress) -> Result<Vec<u8>, Trouble> {
+    let name = OsStr::new(INPUT);
+    let input = io::stdin().lock();
+    match input.is_terminal() {
+        true => read(input, name, most, &mut Progress::silent()),
+        false => read(input, name, most, progress),
+    }
+    .map_err(|error| Trouble::io(name, "be read", &error))
 }
 
 /// At most one byte more than so many.
@@ -65,21 +78,30 @@ pub fn read(
     Ok(all)
 }
 
+/// What to do where a journal takes no more records.
+pub fn begin_another() -> String {
+    format!("Begin another: {} append --new OTHER-FILE", me())
+}
+
 /// Why a proved call refuses a journal or a record, and what to do.
 pub fn why_refused(refusal: Refusal) -> String {
     let (log, record) = (grouped(LONGEST_LOG), grouped(LONGEST_RECORD));
     let (why, advice) = match refusal.condition {
         Condition::LogTooLong => (
             format!("it is longer than {log} bytes, the most that a journal may have"),
-            format!(". Nothing of it was judged; for what its beginning holds, run: head -c {LONGEST_LOG} FILE | mellansko verify -"),
+            format!(
+                ". Nothing of it was judged; for what its beginning holds, with an end that will look torn, run: \
+                 head -c {LONGEST_LOG} FILE | {} verify -",
+                me()
+            ),
         ),
         Condition::RecordTooLong => (
             format!("the record is longer than {record} bytes, the most that one may have"),
-            String::new(),
+            ". Append it in parts, as several records".into(),
         ),
         Condition::NoRoom => (
             format!("with the record the journal would be longer than {log} bytes"),
-            ". Begin another: mellansko append --new OTHER-FILE".into(),
+            format!(". {}", begin_another()),
         ),
         Condition::LimitTooHigh => (format!("the highest limit is {record} bytes"), String::new()),
         _ => (refusal.to_string(), String::new()),

@@ -57,6 +57,6 @@ fn run() -> Result<Status, Trouble> {
         // What it has to say is said by then.
         Command::Append { file, new } => return commands::append(&file, new),
     };
-    output.finish()?;
+    output.flush()?;
     Ok(status)
 }

@@ -18,7 +18,8 @@ impl Output {
         writeln!(self.0, "{line}").map_err(trouble)
     }
 
-    pub fn finish(mut self) -> Result<(), Trouble> {
+    /// Has all that was written read before what is said next on standard error.
+    pub fn flush(&mut self) -> Result<(), Trouble> {
         self.0.flush().map_err(trouble)
     }
 }

@@ -19,6 +19,14 @@ impl Progress {
         Progress { due, spoken: false }
     }
 
+    /// For what must not be written into.
+    pub fn silent() -> Progress {
+        Progress {
+            due: None,
+            spoken: false,
+        }
+    }
+
     /// Shows a line if it is time to.
     pub fn show(&mut self, line: impl FnOnce() -> String) {
         let now = Instant::now();

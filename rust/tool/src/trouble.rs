@@ -19,19 +19,7 @@ impl Trouble {
 
     /// A failure to read or write a file.
     pub fn io(name: &OsStr, doing: &str, error: &io::Error) -> Trouble {
-        let why = match error.kind() {
-            io::ErrorKind::NotFound => "there is no such file. Check the name".into(),
-            io::ErrorKind::IsADirectory => "it is a folder. Name a journal in it".into(),
-            io::ErrorKind::NotADirectory => {
-                "a part of the name before a slash is no folder. Check the name".into()
-            }
-            io::ErrorKind::PermissionDenied => {
-                "permission is denied. Ask the file's owner, or copy it to where it is allowed"
-                    .into()
-            }
-            _ => error.to_string(),
-        };
-        Trouble::of(name, &format!("could not {doing}: {why}"))
+        Trouble::of(name, &format!("could not {doing}: {}", in_words(error)))
     }
 
     pub fn tell(&self) {
@@ -39,6 +27,26 @@ impl Trouble {
             note(message);
         }
     }
+}
+
+/// Why a file can't be read or written, and what to do.
+pub fn in_words(error: &io::Error) -> String {
+    let words = match error.kind() {
+        io::ErrorKind::NotFound => "there is no such file. Check the name",
+        io::ErrorKind::IsADirectory => "it is a folder. Name a journal in it",
+        io::ErrorKind::NotADirectory => {
+            "a part of the name before a slash is no folder. Check the name"
+        }
+        io::ErrorKind::PermissionDenied => {
+            "permission is denied. Ask the file's owner, or copy it to where it is allowed"
+        }
+        io::ErrorKind::ReadOnlyFilesystem => {
+            "it is on a disk that can only be read. Copy it to another, and use the copy"
+        }
+        io::ErrorKind::StorageFull => "the disk is full. Make room, and try again",
+        _ => return error.to_string(),
+    };
+    words.into()
 }
 
 /// Says something on standard error. Where that is closed, there is nobody to tell.

@@ -1,7 +1,13 @@
 //! Numbers, names and lists as a reader of English wants them.
 
 use mellansko::BLOCK;
+use std::env;
 use std::ffi::OsStr;
+
+/// What the user has to type for this tool: the script that starts it says.
+pub fn me() -> String {
+    env::var_os("MELLANSKO").map_or("mellansko".into(), |me| shown(&me))
+}
 
 /// A number with its thousands set apart.
 pub fn grouped(number: usize) -> String {

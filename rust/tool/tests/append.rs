@@ -123,7 +123,12 @@ fn a_journal_in_doubt_is_refused_and_left_as_it_is() {
     for log in logs {
         let file = folder.file("times", &log);
         let ran = append(&file, b"more");
-        ran.failed(1, &["times", "nothing was appended", "NOT WHOLE", "verify"]);
+        let advice = [
+            "Begin another: mellansko append --new",
+            "mellansko verify FILE",
+        ];
+        ran.failed(1, &["times", "nothing was appended", "NOT WHOLE"]);
+        ran.warned(&advice);
         let found = Found::in_log(&log);
         let doubt: usize = found.doubtful().iter().map(|range| range.len()).sum();
         ran.warned(&[&format!(

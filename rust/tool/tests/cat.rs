@@ -65,7 +65,7 @@ fn a_number_is_digits_and_not_0() {
 }
 
 #[test]
-fn a_doubt_before_the_record_is_told_and_one_behind_it_is_not() {
+fn a_doubt_before_the_record_and_one_behind_it_are_told_apart() {
     let folder = Folder::new("cat-doubt");
     // Block 2 is in doubt; behind it stand records 2 and 3 of those that can be read.
     let mut log = written(&vec![vec![8; 32_761]; 3]);
@@ -74,15 +74,23 @@ fn a_doubt_before_the_record_is_told_and_one_behind_it_is_not() {
     let found = Found::in_log(&log);
     assert_eq!((found.records.len(), found.skips.len()), (3, 1));
     let file = folder.file("times", &log);
-    assert_eq!(run!("cat", &file, "1").done().out, vec![8; 32_761]);
-    for number in ["2", "3"] {
+    let (before, behind) = ("before it 32,768 bytes are", "behind it 32,768 bytes are");
+    for (number, says, not) in [
+        ("1", behind, before),
+        ("2", before, behind),
+        ("3", before, behind),
+    ] {
         let ran = run!("cat", &file, number);
-        ran.complained(1, &["times", number, "before it 32,768 bytes are in doubt"]);
+        ran.complained(1, &["times", &format!("record {number} "), says]);
+        assert!(!ran.err.contains(not), "{}", ran.err);
     }
+    assert_eq!(run!("cat", &file, "1").out, vec![8; 32_761]);
     assert_eq!(run!("cat", &file, "3").out, b"third");
     // A torn tail is behind all records.
     let torn = folder.file("times", &written(&["first", "second"])[..20]);
-    assert_eq!(run!("cat", &torn, "1").done().out, b"first");
+    let ran = run!("cat", &torn, "1");
+    ran.complained(1, &["behind it 8 bytes are in doubt", "a newer one"]);
+    assert_eq!(ran.out, b"first");
 }
 
 #[test]
@@ -98,9 +106,11 @@ fn of_damaged_logs_every_record_comes_out_with_the_right_status() {
         let doubt = found.doubtful();
         for (i, (range, bytes)) in found.records.iter().enumerate() {
             let ran = run!("cat", &file, (i + 1).to_string());
-            let doubt = doubt.iter().any(|doubt| doubt.start < range.start);
-            assert_eq!(ran.status, Some(i32::from(doubt)), "{range:?}: {}", ran.err);
-            assert_eq!(ran.err.is_empty(), !doubt, "{range:?}: {}", ran.err);
+            assert_eq!(ran.status, Some(found.status()), "{range:?}: {}", ran.err);
+            let before = doubt.iter().any(|doubt| doubt.start < range.start);
+            let behind = doubt.iter().any(|doubt| doubt.start > range.start);
+            let says = ["before it", "behind it"].map(|words| ran.err.contains(words));
+            assert_eq!(says, [before, behind], "{range:?}: {}", ran.err);
             assert!(ran.out == *bytes, "{range:?}");
         }
         let beyond = (found.records.len() + 1).to_string();

@@ -114,7 +114,11 @@ fn each_refuses(file: &Path, name: &str) {
         let dump = command.get_args().any(|word| word == "dump");
         let ran = ran(&mut command);
         assert_eq!(ran.text(), if dump { "X 1\n" } else { "" });
-        ran.complained(2, &[name, "longer than 16,777,216 bytes", "refusal 1"]);
+        let advice = "head -c 16777216 FILE | mellansko verify -";
+        ran.complained(
+            2,
+            &[name, "longer than 16,777,216 bytes", "refusal 1", advice],
+        );
     }
 }
 

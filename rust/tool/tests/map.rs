@@ -66,12 +66,16 @@ fn check(lines: &[&str], found: &Found, blocks: usize) {
         // All rows begin in one column.
         assert_eq!(line.find(['W', 'D', 'T', 'X']), Some(15), "{line}");
     }
-    let [empty, letters, cell] = lines[1 + rows.len()..] else {
+    let [empty, letters, joint, cell] = lines[1 + rows.len()..] else {
         panic!("{lines:?}");
     };
     assert_eq!(empty, "");
-    for meaning in ["W whole", "D in doubt", "T torn", "X ", "- a record"] {
+    for meaning in ["W whole", "D in doubt", "T torn", "X "] {
         assert!(letters.contains(meaning), "{letters}");
+    }
+    assert!(joint.starts_with("- "), "{joint}");
+    for line in [letters, joint, cell] {
+        assert!(line.len() < 80, "{line}");
     }
     assert!(cell.contains(&count(blocks * BLOCK, "byte")), "{cell}");
 }
@@ -177,7 +181,7 @@ fn the_longest_log_fits_16_rows() {
     let found = Found::in_log(&log);
     assert_eq!(ran.status, Some(1));
     check(&ran.lines(), &found, 1);
-    assert_eq!(ran.lines().len(), 1 + 16 + 3);
+    assert_eq!(ran.lines().len(), 1 + 16 + 4);
 }
 
 #[test]

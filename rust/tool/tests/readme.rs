@@ -15,7 +15,9 @@ fn the_readme_shows_what_the_tool_says() {
     for block in readme.split("\n```console\n$ ./mellansko ").skip(1) {
         let (block, _) = block.split_once("```").expect("the block's end");
         let (words, says) = block.split_once('\n').expect("a command and what it says");
-        let ran = ran(tool().args(words.split(' ')).current_dir(&root));
+        let mut tool = tool();
+        tool.args(words.split(' ')).env("MELLANSKO", "./mellansko");
+        let ran = ran(tool.current_dir(&root));
         assert_eq!((ran.text(), ran.err.as_str()), (says, ""), "{words}");
         shown += 1;
     }

@@ -6,7 +6,7 @@ mod common;
 use common::damage::mixed_log;
 use common::expect::{without_codes, written};
 use common::files::{release, Folder};
-use common::terminal::{is_there, shown, terminal};
+use common::terminal::{is_there, shown, terminal, Showing};
 use common::{fed, finish, tool, Ran};
 use std::fs::{self, File};
 use std::io::Write;
@@ -15,11 +15,24 @@ use std::thread;
 use std::time::Duration;
 
 /// Bytes that come in pieces, for longer than the tool stays quiet.
-fn slowly(mut to: impl Write, bytes: &[u8]) {
+fn slowly(to: &mut impl Write, bytes: &[u8]) {
     for piece in bytes.chunks(bytes.len().div_ceil(8)) {
         to.write_all(piece).expect("it is read");
         thread::sleep(Duration::from_millis(90));
     }
+}
+
+/// The same, and then byte by byte until something is shown: a tool that began late is quiet for
+/// longer.
+fn until_shown(mut to: impl Write, bytes: &[u8], showing: &Showing) {
+    let (most, mut rest) = bytes.split_at(bytes.len() / 8 * 7);
+    slowly(&mut to, most);
+    while !showing.has_begun() {
+        let (next, behind) = rest.split_at(1);
+        slowly(&mut to, next);
+        rest = behind;
+    }
+    to.write_all(rest).expect("it is read");
 }
 
 /// Runs it on standard input that comes slowly, and gives what a terminal shows of its complaints.
@@ -32,9 +45,9 @@ fn on_slow_input(words: &[&str], log: &[u8]) -> (Ran, String) {
     let mut child = command.spawn().expect("the tool");
     // So that the tool alone holds its end.
     drop(command);
-    slowly(child.stdin.take().expect("its input"), log);
+    until_shown(child.stdin.take().expect("its input"), log, &showing);
     let ran = finish(child, Vec::new());
-    (ran, showing.recv().expect("what was shown"))
+    (ran, showing.all())
 }
 
 const ERASE: &str = "\r\x1b[K";
@@ -59,11 +72,12 @@ fn slow_reading_shows_how_far_it_is_and_leaves_nothing_behind() {
             "{words:?}"
         );
         let lines: Vec<&str> = showing.split(ERASE).collect();
-        // Nothing before the first, and nothing left behind the last.
+        // Nothing before the first, and nothing left behind the last but what it has to say.
         let [before, lines @ .., behind] = &lines[..] else {
             panic!("{showing:?}");
         };
-        assert_eq!((*before, *behind), ("", ""), "{showing:?}");
+        let said = plain.err.replace('\n', "\r\n");
+        assert_eq!((*before, *behind), ("", said.as_str()), "{showing:?}");
         assert!(!lines.is_empty(), "{words:?} shows nothing");
         for line in lines {
             assert!(line.starts_with("standard input: "), "{line:?}");
@@ -97,12 +111,12 @@ fn a_long_name_keeps_progress_on_one_row() {
     thread::scope(|scope| {
         scope.spawn(|| {
             let to = File::options().write(true).open(&fifo).expect("the pipe");
-            slowly(to, &written(&vec![[1; 10]; 100]));
+            until_shown(to, &written(&vec![[1; 10]; 100]), &showing);
         });
         finish(child, Vec::new());
         release(&fifo);
     });
-    let showing = showing.recv().expect("what was shown");
+    let showing = showing.all();
     assert!(showing.contains("land-: "), "{showing:?}");
     for line in showing.split(ERASE) {
         assert!(line.chars().count() < 80, "{line:?}");
@@ -116,7 +130,7 @@ fn nothing_is_shown_where_nobody_watches() {
     command.args(["map", "-"]).stdin(Stdio::piped());
     command.stdout(Stdio::piped()).stderr(Stdio::piped());
     let mut child = command.spawn().expect("the tool");
-    slowly(child.stdin.take().expect("its input"), &log);
+    slowly(&mut child.stdin.take().expect("its input"), &log);
     let ran = finish(child, Vec::new());
     assert_eq!((ran.status, ran.err.as_str()), (Some(1), ""));
     assert_eq!(ran.out, fed(tool().args(["map", "-"]), &log).out);
@@ -131,10 +145,7 @@ fn drawn(command: &mut Command, log: &[u8]) -> String {
     let child = command.spawn().expect("the tool");
     command.stdout(Stdio::null());
     finish(child, log.to_vec());
-    showing
-        .recv()
-        .expect("what was shown")
-        .replace("\r\n", "\n")
+    showing.all().replace("\r\n", "\n")
 }
 
 #[test]
@@ -183,6 +194,23 @@ fn a_record_can_be_typed() {
     assert_eq!(
         fs::read(&file).expect("the journal"),
         written(&[b"LW10-1 0.9137\n"])
+    );
+
+    // Nothing is shown into what is being typed, however long that takes.
+    let (mut near, far) = terminal();
+    let showing = shown(near.try_clone().expect("a terminal"));
+    let mut command = tool();
+    command.arg("append").arg(&file);
+    command.stdin(far.try_clone().expect("a terminal"));
+    command.stdout(Stdio::piped()).stderr(far);
+    let child = command.spawn().expect("the tool");
+    drop(command);
+    slowly(&mut near, b"one\ntwo\nthree\nfour\n\x04");
+    finish(child, Vec::new());
+    let showing = showing.all();
+    assert!(
+        showing.contains("Ctrl-D") && !showing.contains(" read"),
+        "{showing:?}"
     );
 
     // A name that is wrong shows before anything is typed.

@@ -8,7 +8,9 @@ use common::expect::{block_numbers, count, example, grouped, numbers, written, F
 use common::files::Folder;
 use common::random::Random;
 use common::{fed, ran, tool};
+use reference::log::{fragment, FIRST, MIDDLE};
 use std::collections::BTreeSet;
+use std::process::Command;
 
 #[test]
 fn a_whole_log_is_called_whole_with_its_records_bytes_and_blocks() {
@@ -136,7 +138,8 @@ fn of_many_damaged_logs_each_doubt_is_listed_and_nothing_else() {
     for (name, log) in names.iter().zip(&logs) {
         rest = check_file(name, log, rest);
     }
-    assert_eq!(rest.len(), 1, "only advice is left: {rest:?}");
+    assert_eq!(rest.len(), 2, "only advice is left: {rest:?}");
+    assert!(rest[0].starts_with("Keep a journal in doubt as it is"));
 }
 
 /// That the logs have every kind of doubt in them.
@@ -153,7 +156,7 @@ fn check_reasons(logs: &[Vec<u8>]) {
 fn check_file<'a>(name: &str, log: &[u8], lines: &'a [&'a str]) -> &'a [&'a str] {
     let found = Found::in_log(log);
     let ranges = found.doubtful();
-    let (own, rest) = lines.split_at(1 + ranges.len());
+    let (own, mut rest) = lines.split_at(1 + ranges.len());
     let verdict = own[0].strip_prefix(name).expect(name);
     if found.is_whole() {
         let expected = match log.len() {
@@ -173,7 +176,11 @@ fn check_file<'a>(name: &str, log: &[u8], lines: &'a [&'a str]) -> &'a [&'a str]
         expected.extend(block_numbers(range));
         expected.push(usize::from(*reason));
         assert_eq!(numbers(line), expected, "{log:x?}: {line}");
-        assert!(line.contains(&format!("reason {reason}, ")), "{line}");
+        let name = NAMES[usize::from(*reason) - 1];
+        assert!(
+            line.ends_with(&format!("(reason {reason}, {name})")),
+            "{line}"
+        );
     }
     if let Some(range) = found.torn_tail() {
         let line = own[own.len() - 1];
@@ -182,8 +189,23 @@ fn check_file<'a>(name: &str, log: &[u8], lines: &'a [&'a str]) -> &'a [&'a str]
         assert_eq!(numbers(line), expected, "{log:x?}: {line}");
         assert!(line.contains("torn tail"), "{line}");
     }
+    if found.records.is_empty() {
+        assert!(rest[0].contains("is it the right file?"), "{}", rest[0]);
+        rest = &rest[1..];
+    }
     rest
 }
+
+/// As document 01 names the reasons.
+const NAMES: [&str; 7] = [
+    "bad length",
+    "blank",
+    "checksum",
+    "interrupted",
+    "orphan",
+    "unknown type",
+    "over the limit",
+];
 
 /// The figures of a first line that says NOT WHOLE: the bytes in doubt, all bytes, the blocks in
 /// doubt, all blocks, the torn tail's start if there is one, and the records that can be read.
@@ -233,6 +255,36 @@ fn the_status_alone_tells_a_damaged_log_from_a_whole_one() {
         files.insert(random.below(whole.len() + 1), file.clone());
         assert_eq!(ran(tool().arg("verify").args(&files)).status, Some(1));
     }
+}
+
+/// LevelDB writes such, and they are sound; but no limit that the user named is to be blamed.
+#[test]
+fn a_record_that_is_too_long_is_named_with_the_figure() {
+    let first = fragment(FIRST, &[1; 32_761]);
+    let log = [first, fragment(MIDDLE, &[1; 32_761]).repeat(8)].concat();
+    let ran = fed(tool().args(["verify", "-"]), &log);
+    let lines = ran.lines();
+    assert!(lines[0].contains("NOT WHOLE"), "{}", lines[0]);
+    let why =
+        "a record longer than 262,144 bytes, the most that one may have (reason 7, over the limit)";
+    assert!(lines[1].ends_with(why), "{}", lines[1]);
+}
+
+/// With both on one pipe, as on a terminal.
+#[test]
+fn the_first_line_answers_before_anything_is_complained_of() {
+    let folder = Folder::new("verify-first");
+    folder.file("sound", &written(&[b"1"]));
+    let mut command = Command::new("sh");
+    command.args(["-c", "exec \"$0\" verify missing sound 2>&1"]);
+    command.arg(env!("CARGO_BIN_EXE_mellansko"));
+    let ran = ran(command.current_dir(&*folder));
+    let lines = ran.lines();
+    assert!(lines[0].starts_with("NOT ALL WHOLE"), "{lines:?}");
+    assert!(
+        lines[1].contains("missing") && lines[2].starts_with("sound: whole"),
+        "{lines:?}"
+    );
 }
 
 #[test]

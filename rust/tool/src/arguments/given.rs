@@ -2,7 +2,7 @@
 
 use super::Command;
 use crate::trouble::Trouble;
-use crate::words::shown;
+use crate::words::{me, shown};
 use std::ffi::{OsStr, OsString};
 
 pub struct Given {
@@ -109,6 +109,6 @@ impl Given {
 
     pub fn wrong(&self, what: &str) -> Trouble {
         let command = self.command;
-        Trouble::Message(format!("{command}: {what}. See mellansko {command} --help"))
+        Trouble::Message(format!("{command}: {what}. See {} {command} --help", me()))
     }
 }

@@ -8,10 +8,10 @@ use crate::journal::{self, why_refused};
 use crate::progress::Progress;
 use crate::survey::Survey;
 use crate::trouble::{note, Trouble};
-use crate::words::{bytes, grouped, shown};
+use crate::words::{bytes, grouped, me, shown};
 use crate::Status;
 use mellansko::{Next, Record, Refusal, LONGEST_LOG, LONGEST_RECORD};
-use std::ffi::{OsStr, OsString};
+use std::ffi::OsString;
 use std::io::{self, IsTerminal, Write};
 
 pub fn append(path: &OsString, new: bool) -> Result<Status, Trouble> {
@@ -30,9 +30,12 @@ pub fn append(path: &OsString, new: bool) -> Result<Status, Trouble> {
     drop(progress);
     if survey.status() != Status::Whole {
         note(&format!(
-            "{}: nothing was appended: it is {}. For more: mellansko verify FILE",
+            "{}: nothing was appended: it is {}. Behind what is in doubt a record might not be found again. {}; \
+             to see more: {} verify FILE",
             shown(path),
-            survey.verdict()
+            survey.verdict(),
+            journal::begin_another(),
+            me()
         ));
         return Ok(Status::Doubt);
     }
@@ -59,14 +62,7 @@ fn record_from_input() -> Result<Vec<u8>, Trouble> {
     if io::stdin().is_terminal() {
         note("type the record, and end it with Ctrl-D on a line of its own");
     }
-    let name = OsStr::new("standard input");
-    journal::read(
-        io::stdin().lock(),
-        name,
-        LONGEST_RECORD,
-        &mut Progress::new(),
-    )
-    .map_err(|error| Trouble::io(name, "be read", &error))
+    journal::read_input(LONGEST_RECORD, &mut Progress::new())
 }
 
 /// Appends the record to the log in memory, and gives where it stands.

@@ -121,14 +121,15 @@ fn legend(blocks: usize, colour: bool, output: &mut Output) -> Result<(), Troubl
     };
     output.line("")?;
     output.line(&format!(
-        "{} whole   {} in doubt   {} torn tail   {} in doubt and torn   - a record runs on into the next cell",
+        "{} whole   {} in doubt   {} torn tail   {} in doubt and torn",
         shown(false, false),
         shown(true, false),
         shown(false, true),
         shown(true, true)
     ))?;
+    output.line("- between two cells: a record runs on from one into the other")?;
     output.line(&format!(
-        "A cell is {}, {}; the number before a row is the place of its first byte.",
+        "A cell: {}, {}. Before a row: its first byte's place.",
         match blocks {
             1 => "one block".into(),
             _ => format!("{} blocks", grouped(blocks)),

@@ -5,8 +5,9 @@ use crate::output::Output;
 use crate::progress::Progress;
 use crate::survey::Survey;
 use crate::trouble::Trouble;
-use crate::words::{blocks, blocks_of, bytes, grouped, shown};
+use crate::words::{blocks, blocks_of, bytes, grouped, me, shown};
 use crate::Status;
+use mellansko::{Reason, LONGEST_RECORD};
 
 pub fn verify(sources: &[Source], output: &mut Output) -> Result<Status, Trouble> {
     let mut progress = Progress::new();
@@ -26,17 +27,25 @@ pub fn verify(sources: &[Source], output: &mut Output) -> Result<Status, Trouble
     for (source, finding) in sources.iter().zip(&findings) {
         match finding {
             Ok(survey) => report(source, survey, output)?,
-            Err(trouble) => trouble.tell(),
+            Err(trouble) => {
+                output.flush()?;
+                trouble.tell();
+            }
         }
     }
     if statuses.contains(&Status::Doubt) {
-        output.line(ADVICE)?;
+        output.line(&advice())?;
     }
     Ok(statuses.into_iter().max().unwrap_or(Status::Failed))
 }
 
-const ADVICE: &str = "Keep a journal in doubt as it is. `mellansko dump FILE` lists all that is in it, \
-                      and `mellansko cat FILE N` gives the bytes of the N-th record that can be read.";
+fn advice() -> String {
+    let me = me();
+    format!(
+        "Keep a journal in doubt as it is: what can be read may be out of date, if a newer record was lost.\n\
+         {me} dump FILE lists all that is in it, {me} cat FILE N gives the N-th record that can be read."
+    )
+}
 
 fn survey(source: &Source, progress: &mut Progress) -> Result<Survey, Trouble> {
     let log = source.read(progress)?;
@@ -63,11 +72,9 @@ fn report(source: &Source, survey: &Survey, output: &mut Output) -> Result<(), T
     output.line(&format!("{}: {}.", shown(source.name()), survey.verdict()))?;
     for skip in &survey.skips {
         let (number, name) = (skip.reason.number(), skip.reason.name());
-        output.line(&format!(
-            "  {}: {} (reason {number}, {name})",
-            range(skip.start, skip.end),
-            skip.reason
-        ))?;
+        let range = range(skip.start, skip.end);
+        let why = in_words(skip.reason);
+        output.line(&format!("  {range}: {why} (reason {number}, {name})"))?;
     }
     if let Some(start) = survey.torn {
         output.line(&format!(
@@ -75,7 +82,21 @@ fn report(source: &Source, survey: &Survey, output: &mut Output) -> Result<(), T
             range(start, survey.length)
         ))?;
     }
+    if survey.records == 0 && survey.status() == Status::Doubt {
+        output.line("  Nothing in it reads as a record: is it the right file?")?;
+    }
     Ok(())
+}
+
+/// The limit is the highest there is: whoever asks has named none.
+fn in_words(reason: Reason) -> String {
+    match reason {
+        Reason::OverLimit => format!(
+            "a record longer than {} bytes, the most that one may have",
+            grouped(LONGEST_RECORD)
+        ),
+        _ => reason.to_string(),
+    }
 }
 
 fn range(start: usize, end: usize) -> String {

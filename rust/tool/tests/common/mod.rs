@@ -22,7 +22,8 @@ const PATIENCE: Duration = Duration::from_secs(100);
 /// The tool, with nothing on standard input and no wishes as to colour.
 pub fn tool() -> Command {
     let mut command = Command::new(env!("CARGO_BIN_EXE_mellansko"));
-    command.env_remove("NO_COLOR").stdin(Stdio::null());
+    command.env_remove("NO_COLOR").env_remove("MELLANSKO");
+    command.stdin(Stdio::null());
     command
 }
 

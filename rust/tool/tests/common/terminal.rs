@@ -7,8 +7,9 @@ use std::io::Read;
 use std::os::fd::AsRawFd;
 use std::os::unix::fs::OpenOptionsExt;
 use std::path::Path;
-use std::sync::mpsc::{channel, Receiver};
-use std::thread;
+use std::sync::atomic::{AtomicBool, Ordering};
+use std::sync::Arc;
+use std::thread::{self, JoinHandle};
 
 extern "C" {
     fn grantpt(fd: c_int) -> c_int;
@@ -51,17 +52,36 @@ fn open(name: &str) -> File {
     options.open(name).expect(name)
 }
 
-/// All that is shown, up to when the tool's end is closed.
-pub fn shown(mut near: File) -> Receiver<String> {
-    let (send, receive) = channel();
-    thread::spawn(move || {
-        let mut all = Vec::new();
+/// What a terminal shows, while the tool runs and in the end.
+pub struct Showing {
+    begun: Arc<AtomicBool>,
+    all: JoinHandle<String>,
+}
+
+impl Showing {
+    /// Whether anything is shown yet.
+    pub fn has_begun(&self) -> bool {
+        self.begun.load(Ordering::SeqCst)
+    }
+
+    /// All of it, up to when the tool's end is closed.
+    pub fn all(self) -> String {
+        self.all.join().expect("what was shown")
+    }
+}
+
+pub fn shown(mut near: File) -> Showing {
+    let begun = Arc::new(AtomicBool::new(false));
+    let came = begun.clone();
+    let all = thread::spawn(move || {
+        let mut text = Vec::new();
         let mut piece = [0; 4_096];
         // The end comes as an error.
         while let Ok(read @ 1..) = near.read(&mut piece) {
-            all.extend_from_slice(&piece[..read]);
+            text.extend_from_slice(&piece[..read]);
+            came.store(true, Ordering::SeqCst);
         }
-        let _ = send.send(String::from_utf8(all).expect("text"));
+        String::from_utf8(text).expect("text")
     });
-    receive
+    Showing { begun, all }
 }

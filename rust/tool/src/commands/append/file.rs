@@ -2,12 +2,13 @@
 
 use crate::journal;
 use crate::progress::Progress;
-use crate::trouble::Trouble;
+use crate::trouble::{in_words, Trouble};
 use crate::words::{grouped, shown};
 use mellansko::LONGEST_LOG;
 use std::ffi::OsStr;
 use std::fs::{self, File, OpenOptions, TryLockError};
 use std::io::{self, Write};
+use std::os::unix::fs::MetadataExt;
 use std::path::Path;
 
 /// The file, opened, or none if it is to be a new one.
@@ -24,7 +25,7 @@ pub fn nothing_appended(path: &OsStr, why: &str) -> Trouble {
 
 /// Makes sure that there is no such file yet, and a folder for it.
 fn absent(path: &OsStr) -> Result<(), Trouble> {
-    let trouble = |error| Trouble::io(path, "be begun", &error);
+    let trouble = |error| not_begun(path, &error);
     if fs::exists(path).map_err(trouble)? {
         return Err(there_already(path));
     }
@@ -39,6 +40,15 @@ fn absent(path: &OsStr) -> Result<(), Trouble> {
         return Err(nothing_appended(path, &why));
     }
     Ok(())
+}
+
+fn not_begun(path: &OsStr, error: &io::Error) -> Trouble {
+    if error.kind() != io::ErrorKind::PermissionDenied {
+        return Trouble::io(path, "be begun", error);
+    }
+    let folder = shown(folder_of(path).as_os_str());
+    let why = format!("permission is denied in the folder {folder}. Choose another");
+    nothing_appended(path, &why)
 }
 
 fn there_already(path: &OsStr) -> Trouble {
@@ -86,8 +96,18 @@ fn lock(file: &File, path: &OsStr) -> Result<(), Trouble> {
 /// What the file holds, which no other append changes until this one ends.
 pub fn taken(file: &File, path: &OsStr) -> Result<Vec<u8>, Trouble> {
     lock(file, path)?;
-    journal::read(file, path, LONGEST_LOG, &mut Progress::new())
-        .map_err(|error| Trouble::io(path, "be read", &error))
+    let same = |there: fs::Metadata, here: fs::Metadata| {
+        (there.dev(), there.ino()) == (here.dev(), here.ino())
+    };
+    let trouble = |error: io::Error| Trouble::io(path, "be read", &error);
+    if !same(
+        fs::metadata(path).map_err(trouble)?,
+        file.metadata().map_err(trouble)?,
+    ) {
+        let why = "another file has its name by now. Try again";
+        return Err(nothing_appended(path, why));
+    }
+    journal::read(file, path, LONGEST_LOG, &mut Progress::new()).map_err(trouble)
 }
 
 /// Puts the added bytes behind those that the file has; it gets all of them or none.
@@ -110,7 +130,7 @@ pub fn store(old: Option<File>, path: &OsStr, used: usize, added: &[u8]) -> Resu
         false => file.set_len(used as u64),
     };
     Err(match undone {
-        Ok(()) => nothing_appended(path, &format!("it could not be written ({error})")),
+        Ok(()) => nothing_appended(path, &format!("it could not be written: {}", in_words(&error))),
         Err(_) => Trouble::of(
             path,
             &format!(
@@ -126,7 +146,7 @@ fn begun(path: &OsStr) -> Result<File, Trouble> {
     let file = options.append(true).create_new(true).open(path);
     let file = file.map_err(|error| match error.kind() {
         io::ErrorKind::AlreadyExists => there_already(path),
-        _ => Trouble::io(path, "be begun", &error),
+        _ => not_begun(path, &error),
     })?;
     lock(&file, path)?;
     Ok(file)
@@ -136,8 +156,10 @@ fn begun(path: &OsStr) -> Result<File, Trouble> {
 fn put(mut file: &File, path: &OsStr, added: &[u8], new: bool) -> io::Result<()> {
     file.write_all(added)?;
     file.sync_all()?;
-    if new {
-        File::open(folder_of(path))?.sync_all()?;
+    match new.then(|| File::open(folder_of(path))) {
+        Some(Ok(folder)) => folder.sync_all(),
+        // A folder that may be written and not be read: the record itself is on the disk.
+        Some(Err(error)) if error.kind() != io::ErrorKind::PermissionDenied => Err(error),
+        _ => Ok(()),
     }
-    Ok(())
 }
