@@ -26,7 +26,7 @@ fn faults(folder: &Folder) -> Option<PathBuf> {
     Some(library)
 }
 
-fn append(library: &Path, words: &[&str], file: &Path, fault: (&str, &str)) -> Ran {
+fn appending(library: &Path, words: &[&str], file: &Path, fault: (&str, &str)) -> Command {
     let mut command = tool();
     command.arg("append").args(words).arg(file);
     // The library by its name and its folder: LD_PRELOAD takes no path with a space.
@@ -34,7 +34,11 @@ fn append(library: &Path, words: &[&str], file: &Path, fault: (&str, &str)) -> R
     command.env("LD_PRELOAD", name.expect("a name"));
     command.env("LD_LIBRARY_PATH", folder.expect("a folder"));
     command.env(fault.0, fault.1);
-    fed(&mut command, b"mine")
+    command
+}
+
+fn append(library: &Path, words: &[&str], file: &Path, fault: (&str, &str)) -> Ran {
+    fed(&mut appending(library, words, file, fault), b"mine")
 }
 
 #[test]
@@ -78,4 +82,23 @@ fn what_another_program_writes_after_the_reading_is_not_written_behind() {
         fs::read(&file).expect("the journal"),
         [&before[..], b"x"].concat()
     );
+}
+
+#[test]
+fn a_journal_that_is_replaced_before_it_is_locked_gets_no_record() {
+    let folder = Folder::new("faults-replace");
+    let Some(library) = faults(&folder) else {
+        return;
+    };
+    let before = written(&["first"]);
+    let file = folder.file("log", &before);
+    let name = file.to_str().expect("a name in UTF-8");
+    let mut command = appending(&library, &[], &file, ("REPLACE", name));
+    let ran = fed(command.current_dir(&*folder), b"mine");
+    ran.failed(
+        2,
+        &["log", "nothing was appended", "another file has its name"],
+    );
+    let bytes = |name: &str| fs::read(folder.join(name)).expect("a file");
+    assert_eq!((bytes("aside"), bytes("log")), (before, Vec::new()));
 }

@@ -1,9 +1,9 @@
-//! Put before the system's own calls by LD_PRELOAD: a disk that fails, and a program that writes to
-//! a journal without asking. Not a part of any test program.
+//! Put before the system's own calls by LD_PRELOAD: a disk that fails, and programs that write to a
+//! journal without asking, or put another in its place. Not a part of any test program.
 
 use std::env;
 use std::ffi::{c_int, c_long, c_void};
-use std::fs::OpenOptions;
+use std::fs::{self, OpenOptions};
 use std::io::Write;
 
 extern "C" {
@@ -12,6 +12,7 @@ extern "C" {
 }
 
 const READ: c_long = 0;
+const FLOCK: c_long = 73;
 const FSYNC: c_long = 74;
 const EIO: c_int = 5;
 
@@ -26,6 +27,15 @@ pub unsafe extern "C" fn fsync(fd: c_int) -> c_int {
         return -1;
     }
     syscall(FSYNC, fd) as c_int
+}
+
+/// Before a lock is taken, the file that REPLACE names is moved aside, and an empty one has its name.
+#[no_mangle]
+pub unsafe extern "C" fn flock(fd: c_int, how: c_int) -> c_int {
+    if let Some(path) = env::var_os("REPLACE") {
+        let _ = fs::rename(&path, "aside").and_then(|()| fs::write(path, b""));
+    }
+    syscall(FLOCK, fd, how) as c_int
 }
 
 /// When a file has been read to its end, a byte is added to the one that GROW names.
