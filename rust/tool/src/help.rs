@@ -1,5 +1,15 @@
 //! The texts of `--help`.
 
+use crate::words::grouped;
+use mellansko::{BLOCK, LONGEST_LOG, LONGEST_RECORD};
+
+/// A text with the figures of the format in it, each of which is written in one place only.
+pub fn with_figures(text: &str) -> String {
+    text.replace("{BLOCK}", &grouped(BLOCK))
+        .replace("{RECORD}", &grouped(LONGEST_RECORD))
+        .replace("{LOG}", &grouped(LONGEST_LOG))
+}
+
 pub const VERSION: &str = concat!("mellansko ", env!("CARGO_PKG_VERSION"), "\n");
 
 pub const ALL: &str = "\
@@ -24,7 +34,7 @@ mellansko verify FILE..
 Says whether each journal is whole. The first line answers; with several files it speaks of all
 of them. Of a journal that is not whole it lists each range of bytes in doubt with the reason,
 and where a torn tail starts. Places count from 0 and a range ends before its second number;
-blocks, of 32,768 bytes, count from 1.
+blocks, of {BLOCK} bytes, count from 1.
 
 A whole journal has no range in doubt and no torn tail. The up to six bytes that fill up a block
 are not judged. If whole records are cut off at its end, nothing in the file shows that there were
@@ -32,7 +42,7 @@ more: compare the number of records with what you expect.
 
 A torn tail may be the record that was being written when the power went. A damaged length in the
 last block looks the same, and then the tail may hold records that were written whole. A record
-of more than 262,144 bytes counts as in doubt too.
+of more than {RECORD} bytes counts as in doubt too.
 
 FILE may be - for standard input; behind -- a name may begin with a dash.
 
@@ -52,9 +62,9 @@ Lists all that is in a journal in its order, one line each, with plain numbers:
   X NUMBER              refused; nothing else follows
 
 Reasons: 1 bad length, 2 blank, 3 checksum, 4 interrupted, 5 orphan, 6 unknown type, 7 over the
-limit. Refusals: 1 a journal of more than 16,777,216 bytes, 5 a limit of more than 262,144.
+limit. Refusals: 1 a journal of more than {LOG} bytes, 5 a limit of more than {RECORD}.
 
-  --limit N    skip records of more than N bytes, for reason 7; 262,144 if not given
+  --limit N    skip records of more than N bytes, for reason 7; {RECORD} if not given
 
 FILE may be - for standard input; behind -- a name may begin with a dash.
 
@@ -64,7 +74,7 @@ Exit status: 0 whole; 1 something is in doubt; 2 refused, or it could not be rea
 pub const MAP: &str = "\
 mellansko map [--blocks N] [--color WHEN] FILE
 
-Draws a journal, a cell for each block of 32,768 bytes:
+Draws a journal, a cell for each block of {BLOCK} bytes:
 
   W  whole: every byte belongs to a record, or fills up the block behind the last
   D  in doubt: a skipped range has a byte here
@@ -75,7 +85,7 @@ Draws a journal, a cell for each block of 32,768 bytes:
   --blocks N      draw N blocks as one cell; if not given, as many as it takes for 16 rows
   --color WHEN    always, never, or auto: on a terminal, unless TERM is dumb or NO_COLOR is set
 
-The picture is up to 80 columns wide. A record of more than 262,144 bytes counts as in doubt.
+The picture is up to 80 columns wide. A record of more than {RECORD} bytes counts as in doubt.
 
 FILE may be - for standard input; behind -- a name may begin with a dash.
 
@@ -109,7 +119,7 @@ write fails it is cut back to what it was. While one append is at work, another 
 
   --new    begin a new journal; refused if the file is there already
 
-A record has at most 262,144 bytes, a journal 16,777,216. No bytes are a record too: so is what
+A record has at most {RECORD} bytes, a journal {LOG}. No bytes are a record too: so is what
 comes of a standard input that is closed, or of a program before a pipe that failed.
 
 Exit status: 0 appended; 1 refused, since the journal is in doubt; 2 not appended, for another

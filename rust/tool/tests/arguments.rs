@@ -28,6 +28,8 @@ fn help_comes_on_standard_output_for_the_tool_and_each_command() {
             "{help}"
         );
         assert!(help.lines().all(|line| line.len() <= 100), "{help}");
+        // Figures, and no names of figures.
+        assert!(!help.contains(['{', '}']), "{help}");
         // With other words before or behind it, nothing is done but help.
         for words in [
             &[command, "-h"][..],
@@ -38,6 +40,21 @@ fn help_comes_on_standard_output_for_the_tool_and_each_command() {
             &["-h", command],
         ] {
             assert_eq!(ran(tool().args(words)).done().text(), help, "{words:?}");
+        }
+    }
+}
+
+#[test]
+fn help_names_the_figures_of_the_format() {
+    for (command, figures) in [
+        ("verify", &["32,768", "262,144"][..]),
+        ("dump", &["16,777,216", "262,144"]),
+        ("map", &["32,768", "262,144"]),
+        ("append", &["16,777,216", "262,144"]),
+    ] {
+        let ran = run!(command, "--help");
+        for figure in figures {
+            assert!(ran.text().contains(figure), "{figure}: {}", ran.text());
         }
     }
 }

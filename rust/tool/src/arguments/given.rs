@@ -1,6 +1,7 @@
 //! The words that were given behind a command.
 
 use super::Command;
+use crate::help;
 use crate::trouble::Trouble;
 use crate::words::{me, shown};
 use std::ffi::{OsStr, OsString};
@@ -75,7 +76,7 @@ impl Given {
 
     pub fn command(self, parse: fn(Given) -> Result<Command, Trouble>) -> Result<Command, Trouble> {
         if self.wants_help {
-            return Ok(Command::Say(self.help.into()));
+            return Ok(Command::Say(help::with_figures(self.help)));
         }
         parse(self)
     }
