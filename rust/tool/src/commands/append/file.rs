@@ -96,14 +96,10 @@ fn lock(file: &File, path: &OsStr) -> Result<(), Trouble> {
 /// What the file holds, which no other append changes until this one ends.
 pub fn taken(file: &File, path: &OsStr) -> Result<Vec<u8>, Trouble> {
     lock(file, path)?;
-    let same = |there: fs::Metadata, here: fs::Metadata| {
-        (there.dev(), there.ino()) == (here.dev(), here.ino())
-    };
     let trouble = |error: io::Error| Trouble::io(path, "be read", &error);
-    if !same(
-        fs::metadata(path).map_err(trouble)?,
-        file.metadata().map_err(trouble)?,
-    ) {
+    let named = fs::metadata(path).map_err(trouble)?;
+    let locked = file.metadata().map_err(trouble)?;
+    if (named.dev(), named.ino()) != (locked.dev(), locked.ino()) {
         let why = "another file has its name by now. Try again";
         return Err(nothing_appended(path, why));
     }
