@@ -1,6 +1,4 @@
 pub mod Copying
 pub mod Gathering
 pub mod Parts
-pub mod Scanning
-pub mod Stepping
 pub mod Telling

@@ -1,3 +1,1 @@
-pub mod Fields
-pub mod Judging
-pub mod Looks
+pub mod Acting

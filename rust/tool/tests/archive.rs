@@ -18,7 +18,7 @@ impl Build {
     fn new(folder: &Folder) -> Option<Build> {
         let root = folder.join("place");
         let package = root.join("rust/mellansko");
-        let source = root.join("crates/log_step/src");
+        let source = root.join("crates/log_look/src");
         for folder in [
             &package,
             &source,
@@ -27,7 +27,7 @@ impl Build {
         ] {
             fs::create_dir_all(folder).expect("a folder");
         }
-        fs::write(source.join("look.rt"), "").expect("a source");
+        fs::write(source.join("lib.rt"), "").expect("a source");
         fs::write(root.join("crates.txt"), "").expect("a source");
         set_ages(&root, 60);
         let script = Path::new(env!("CARGO_MANIFEST_DIR")).join("../mellansko/build.rs");
@@ -116,8 +116,8 @@ fn rt_is_called_if_the_archive_is_missing_or_older_than_a_source_and_only_then()
 
     for source in [
         "crates.txt",
-        "crates/log_step/src/look.rt",
-        "crates/log_step/src",
+        "crates/log_look/src/lib.rt",
+        "crates/log_look/src",
         "crates",
     ] {
         let source = build.root.join(source);

@@ -18,7 +18,7 @@ fn one_at_a_time() -> MutexGuard<'static, ()> {
 }
 
 const SOURCES: [&str; 9] = [
-    "crates/log_step/src/look.rt",
+    "crates/log_look/src/lib.rt",
     "crates.txt",
     "rust/Cargo.toml",
     "rust/Cargo.lock",
