@@ -1,7 +1,5 @@
 // Runs at the edges of document 01's rules: sizes, refusals, block ends, reasons, limits, and the asking for bytes. Each place is
 // written out, so that a step can be checked by hand.
-mod by_hand;
-
 ghost use Prim.Native.Nat.{_≤_};
 use by_hand::fragment;
 use log_format::Fragment;

@@ -238,4 +238,6 @@ fn made_the_stored_outputs() {
     assert_eq!(example, reference::runs::example::listing());
     let edges = include_str!("../../../crates/run_edges/stdout");
     assert_eq!(edges, reference::runs::edges::listing());
+    let trailers = include_str!("../../../crates/run_trailers/stdout");
+    assert_eq!(trailers, reference::runs::trailers::listing());
 }

@@ -3,6 +3,7 @@
 
 pub mod edges;
 pub mod example;
+pub mod trailers;
 
 use crate::crc32c_by_bytes;
 use crate::log::{append, fragment, next, record_bytes, Appended, Next, Stored, Tail};
