@@ -1,5 +1,5 @@
 -- What an append answers and leaves: refused, or with its trailer and then its fragments put. Assumes nothing.
-use mathlib.Core.Path.{_≡_, refl, sym, ap, _∙_, subst}
+use mathlib.Core.Path.{_≡_, refl, sym, ap, _∙_}
 use Prim.Native.Nat.{ℕ, zero, suc, _+_, _-_, _≤_}
 use mathlib.Core.List.{List, _++_}
 use native.Mathlib.Omega.{arith}
@@ -30,7 +30,7 @@ module _ (e : Edition) (log : List ℕ) (mark : ℕ) (d : List ℕ) {k : ℕ} (s
 
   pub refuses : (k ≡ 0 → ⊥) → Gives (appendOf e log mark d) (A.Refused (refusal k mark)) log
   unfolding appendOf
-  refuses h = subst (λ (n : ℕ). Gives (appendBy e log mark d n) (A.Refused (refusal k mark)) log) says (by-number k h)
+  refuses h = rw (← says) (by-number k h)
 
   module _ (h : k ≡ 0) where
     room-for : sizeAdded e mark (length d) ≤ length log - mark
@@ -44,16 +44,17 @@ module _ (e : Edition) (log : List ℕ) (mark : ℕ) (d : List ℕ) {k : ℕ} (s
 
     -- the trailer is put, and the first fragment starts at o
     module _ {o : ℕ} {log₁ : List ℕ} (q : o ≡ mark + pad e mark) (w : log₁ ≡ overwrite log mark (trailer e mark)) where
-      pub header-left : header e ≤ left o
-      header-left = rw q (pad-left e mark)
-
       spelling-size : pad e mark + length (spelling e o d) ≡ sizeAdded e mark (length d)
       spelling-size = rw q (body-size e mark d)
 
-      pub spelling-fits : o + length (spelling e o d) ≤ length log₁
-      spelling-fits = omega (arith, room-for, size-long e mark d, spelling-size, ap length w, overwrite-length log (trailer e mark) mark zeros-fit)
+      kept : length log₁ ≡ length log
+      kept = ap length w ∙ overwrite-length log (trailer e mark) mark zeros-fit
 
-      pub accepts : {z : ℕ} {log₂ : List ℕ} → z ≡ o + length (spelling e o d) → log₂ ≡ overwrite log₁ o (spelling e o d) → Gives (appendOf e log mark d) (A.Mark z) log₂
+      pub write-fits : (header e ≤ left o) × (o + length (spelling e o d) ≤ length log₁)
+      write-fits = (rw q (pad-left e mark), omega (arith, room-for, size-long e mark d, spelling-size, kept))
+
+      pub accepts : {z : ℕ} {log₂ : List ℕ} → z ≡ o + length (spelling e o d) → log₂ ≡ overwrite log₁ o (spelling e o d)
+          → Gives (appendOf e log mark d) (A.Mark z) log₂
       accepts {z} {log₂} a b = unfold appendOf in rw (← says, h) (ap A.Mark until, both)
         where
           until : z ≡ mark + sizeAdded e mark (length d)
@@ -62,5 +63,5 @@ module _ (e : Edition) (log : List ℕ) (mark : ℕ) (d : List ℕ) {k : ℕ} (s
           both : log₂ ≡ overwrite log mark (added e mark d)
           both =
               b ∙ ap (λ (l : List ℕ). overwrite l o (spelling e o d)) w
-              ∙ overwrite-more log (trailer e mark) mark zeros-fit (spelling e o d) o (q ∙ ap (λ (n : ℕ). mark + n) (sym (length-replicate (pad e mark) 0)))
+              ∙ overwrite-more log (trailer e mark) mark zeros-fit (spelling e o d) o (rw length-replicate q)
               ∙ unfold added in ap (λ (m : ℕ). overwrite log mark (trailer e mark ++ spelling e m d)) q
