@@ -1,4 +1,2 @@
-pub mod Copying
-pub mod Gathering
 pub mod Parts
 pub mod Telling
