@@ -2,7 +2,7 @@
 // written out, so that a step can be checked by hand.
 ghost use Prim.Native.Nat.{_≤_};
 use by_hand::fragment;
-use log_format::Fragment;
+use log_layout::Fragment;
 use report::BufferArray;
 use report::Length;
 use report::LogArray;

@@ -1,9 +1,9 @@
 // Runs over trailers of each length. An append's fragments fill their block, so a trailer inside a record is put by hand.
 ghost use Prim.Native.Nat.{_<_};
 use by_hand::fragment;
-use log_format::Fragment;
-use log_format::Header;
 use log_format::Record;
+use log_layout::Fragment;
+use log_layout::Header;
 use report::BufferArray;
 use report::Length;
 use report::LogArray;
