@@ -7,7 +7,7 @@ ghost use Rattle.crc32c.specs.Crc32c.{crc};
 ghost use Rattle.crc32c.specs.Mask.{mask};
 ghost use Rattle.log_format.specs.Format.Fragment.{firstEdition};
 ghost use Rattle.log_format.specs.Format.Calls.{appendOf, nextOf};
-ghost use Rattle.log_format.specs.Format.Numbers.{appendedNumbers, nextNumbers};
+ghost use Rattle.log_format.specs.Format.Numbers.{appendedNumbers, kindIn, nextNumbers};
 use crc32c::Crc32c;
 use crc32c::Mask;
 
@@ -25,21 +25,24 @@ pub extern "C" fn mellansko_mask(checksum: u32) -> u32
     Mask::of(checksum)
 }
 
-// The answer's ten numbers are appendedNumbers'.
+// The answer's ten numbers are appendedNumbers', and what is returned is the first of them.
 #[no_mangle]
 pub extern "C" fn mellansko_append(
     log: &mut [u8],
     mark: usize,
     record: &[u8],
     answer: &mut [u64; 10],
-)
+) -> u64
+    ensures { λ r. ⌜ r ≡ kindIn (appendedNumbers (appendOf firstEdition (now (log .entry)) mark (now («record» .entry)) .answer)) ⌝ }
     ensures { λ _. ⌜ now (answer .exit) ≡ appendedNumbers (appendOf firstEdition (now (log .entry)) mark (now («record» .entry)) .answer) ⌝ }
     ensures { λ _. ⌜ now (log .exit) ≡ appendOf firstEdition (now (log .entry)) mark (now («record» .entry)) .log ⌝ }
 {
-    *answer = numbers::appended(log_writer::append(log, mark, record));
+    let appended = numbers::appended(log_writer::append(log, mark, record));
+    *answer = appended;
+    appended[0]
 }
 
-// The answer's ten numbers are nextNumbers'.
+// The answer's ten numbers are nextNumbers', and what is returned is the first of them.
 #[no_mangle]
 pub extern "C" fn mellansko_next(
     log: &[u8],
@@ -47,9 +50,12 @@ pub extern "C" fn mellansko_next(
     limit: usize,
     buffer: &mut [u8],
     answer: &mut [u64; 10],
-)
+) -> u64
+    ensures { λ r. ⌜ r ≡ kindIn (nextNumbers (length (now (log .entry))) (nextOf firstEdition (now (log .entry)) place limit (now (buffer .entry)) .answer)) ⌝ }
     ensures { λ _. ⌜ now (answer .exit) ≡ nextNumbers (length (now (log .entry))) (nextOf firstEdition (now (log .entry)) place limit (now (buffer .entry)) .answer) ⌝ }
     ensures { λ _. ⌜ now (buffer .exit) ≡ nextOf firstEdition (now (log .entry)) place limit (now (buffer .entry)) .buffer ⌝ }
 {
-    *answer = numbers::next(log.len(), log_reader::next(log, place, limit, buffer));
+    let next = numbers::next(log.len(), log_reader::next(log, place, limit, buffer));
+    *answer = next;
+    next[0]
 }
