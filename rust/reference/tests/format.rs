@@ -1,0 +1,227 @@
+//! The figures and examples of docs/FORMAT.md, held to this implementation: each is worked out here
+//! and must stand on the page as it comes out.
+
+use reference::log::{append, next, Appended, Next, Stored, Tail};
+use reference::{crc32c, mask};
+
+const PAGE: &str = include_str!("../../../docs/FORMAT.md");
+
+/// The page's text from one number up to another, in one line.
+fn part(from: &str, to: &str) -> String {
+    let start = PAGE.find(&format!("**{from}**")).expect(from);
+    let rest = &PAGE[start..];
+    let end = rest.find(to).expect(to);
+    rest[..end].split_whitespace().collect::<Vec<_>>().join(" ")
+}
+
+fn says(text: &str, wanted: &str) {
+    assert!(
+        text.contains(wanted),
+        "the page does not say: {wanted}\n{text}"
+    );
+}
+
+/// A number as the page writes it.
+fn grouped(number: usize) -> String {
+    let digits = number.to_string();
+    let (head, tail) = digits.split_at((digits.len() - 1) % 3 + 1);
+    let threes = tail.as_bytes().chunks(3).map(|three| {
+        let three = std::str::from_utf8(three).expect("digits");
+        format!(",{three}")
+    });
+    head.to_string() + &threes.collect::<String>()
+}
+
+/// The answers of a log, as the page tells them.
+fn told(log: &[u8], limit: usize) -> Vec<String> {
+    let mut buffer = vec![0; limit];
+    let mut place = 0;
+    let mut lines = Vec::new();
+    loop {
+        let answer = next(log, place, limit, &mut buffer);
+        place = answer.place_after(log);
+        lines.push(match answer {
+            Next::Record {
+                start, end, stored, ..
+            } => {
+                let stored = match stored {
+                    Stored::Whole(place) => format!("whole from {}", grouped(place)),
+                    Stored::Gathered => "gathered".to_string(),
+                };
+                format!("record {} to {}, {stored}", grouped(start), grouped(end))
+            }
+            Next::Skip { start, end, reason } => format!(
+                "skipped {} to {}, reason {reason}",
+                grouped(start),
+                grouped(end)
+            ),
+            Next::End(Tail::Clean) => "end, clean".to_string(),
+            Next::End(Tail::Torn(start)) => format!("end, torn at {}", grouped(start)),
+            Next::Refused { number, .. } => panic!("refused with {number}"),
+        });
+        if matches!(answer, Next::End(_)) {
+            return lines;
+        }
+    }
+}
+
+/// The log of some appends, and the bytes that each adds.
+fn written(records: &[&[u8]]) -> (Vec<u8>, Vec<usize>) {
+    let mut log = vec![0; 200_000];
+    let mut mark = 0;
+    let mut added = Vec::new();
+    for record in records {
+        let Appended::Mark(new) = append(&mut log, mark, record) else {
+            panic!("refused");
+        };
+        added.push(new - mark);
+        mark = new;
+    }
+    log.truncate(mark);
+    (log, added)
+}
+
+#[test]
+fn checksums() {
+    let text = part("§2.4", "## 3.");
+    says(
+        &text,
+        &format!("`123456789` it is 0x{:08X}", crc32c(b"123456789")),
+    );
+    says(&text, &format!("Of no bytes it is {}", crc32c(b"")));
+    says(
+        &text,
+        &format!("Of 0 it is 0x{:08X}, of 1 0x{:08X}.", mask(0), mask(1)),
+    );
+}
+
+#[test]
+fn two_records() {
+    let records: [&[u8]; 2] = [b"LW10-1 0.9137", b"LW11 0.8412"];
+    let (mut log, added) = written(&records);
+    let text = part("§9.1", "**§9.2**");
+    let sum = crc32c(&[&[1], records[0]].concat());
+    says(
+        &text,
+        &format!("is 0x{sum:08X}, and masked 0x{:08X}.", mask(sum)),
+    );
+    let mut place = 0;
+    for size in added {
+        let bytes = log[place..place + size].iter();
+        let bytes: Vec<String> = bytes.map(|byte| format!("{byte:02x}")).collect();
+        says(&text, &format!("{place} {}", bytes.join(" ")));
+        place += size;
+    }
+    says(&text, &format!("the log is these {place} bytes"));
+    let answers = told(&log, 100);
+    let lengths = records.map(|record| format!("{} bytes", record.len()));
+    let first = answers[0].replace(", whole", &format!(", {}, whole", lengths[0]));
+    let second = answers[1].replace(", whole", &format!(", {}, whole", lengths[1]));
+    says(
+        &text,
+        &format!(
+            "limit 100 it answers: {first}; {second}; {}. Cut",
+            answers[2]
+        ),
+    );
+    let cut = told(&log[..37], 100);
+    assert_eq!((&cut[0], cut.len()), (&answers[0], 2));
+    says(
+        &text,
+        &format!("Cut to 37 bytes: the first record; {}.", cut[1]),
+    );
+    log[10] ^= 1;
+    says(
+        &text,
+        &format!("at place 10 changed: {}.", told(&log, 100).join("; ")),
+    );
+}
+
+#[test]
+fn the_picture() {
+    let lengths = [1_000, 97_270, 8_000];
+    let records = lengths.map(|length| vec![7; length]);
+    let (mut log, added) = written(&records.each_ref().map(Vec::as_slice));
+    let text = part("§9.2", "**§9.3**");
+    let [a, b, c] = [0, 1, 2].map(|i| grouped(added[i]));
+    says(
+        &text,
+        &format!(
+            "The appends add {a}, {b} and {c} bytes, and the log has {}.",
+            grouped(log.len())
+        ),
+    );
+    let whole = told(&log, 262_144);
+    says(&text, &format!("limit 262,144: {}.", whole.join("; ")));
+    let cut = told(&log[..106_310], 262_144);
+    assert_eq!(cut[..2], whole[..2]);
+    assert_eq!(cut[2], "end, torn at 98,304");
+    says(&text, "Cut to 106,310 bytes the third is torn at 98,304;");
+    let cut = told(&log[..98_300], 262_144);
+    assert_eq!(cut[..2], whole[..2]);
+    assert_eq!(cut[2], "end, clean");
+    says(
+        &text,
+        "cut to 98,300 bytes, which is in the trailer, there are two records and a clean end.",
+    );
+    log[40_000] ^= 1;
+    let changed = told(&log, 262_144);
+    assert_eq!((&changed[0], &changed[4]), (&whole[0], &whole[2]));
+    says(
+        &text,
+        &format!(
+            "at 40,000 changed: the first record; {}; the third record; {}.",
+            changed[1..4].join("; "),
+            changed[5]
+        ),
+    );
+}
+
+/// The rows of a table, without its head.
+fn rows(text: &str) -> Vec<Vec<String>> {
+    let start = PAGE.find(&format!("**{text}**")).expect(text);
+    let lines = PAGE[start..]
+        .lines()
+        .skip_while(|line| !line.starts_with('|'));
+    let lines = lines.take_while(|line| line.starts_with('|')).skip(2);
+    lines
+        .map(|line| {
+            let cells = line.trim_matches('|').split('|');
+            cells.map(|cell| cell.trim().to_string()).collect()
+        })
+        .collect()
+}
+
+#[test]
+fn sizes() {
+    let number = |text: &str| text.replace(',', "").parse::<usize>().expect("a number");
+    let rows = rows("§9.3");
+    assert_eq!(rows.len(), 5);
+    for row in rows {
+        let mark = number(&row[0]);
+        let length = match row[1].split_once(' ') {
+            Some((count, _)) => number(count),
+            None => 0,
+        };
+        let answer = append(&mut vec![0; 200_000], mark, &vec![7; length]);
+        assert_eq!(answer, Appended::Mark(mark + number(&row[2])), "{row:?}");
+    }
+}
+
+#[test]
+fn small_logs() {
+    let rows = rows("§9.4");
+    assert_eq!(rows.len(), 5);
+    for row in rows {
+        let log = match row[0].as_str() {
+            "no bytes" => Vec::new(),
+            "six bytes, any" => vec![0x5a; 6],
+            "seven zeros" => vec![0; 7],
+            hex => hex
+                .split(' ')
+                .map(|byte| u8::from_str_radix(byte, 16).expect("a byte"))
+                .collect(),
+        };
+        assert_eq!(told(&log, 100).join("; "), row[1], "{row:?}");
+    }
+}
