@@ -155,14 +155,18 @@ fn the_picture() {
     says(&text, &format!("limit 262,144: {}.", whole.join("; ")));
     let cut = told(&log[..106_310], 262_144);
     assert_eq!(cut[..2], whole[..2]);
-    assert_eq!(cut[2], "end, torn at 98,304");
-    says(&text, "Cut to 106,310 bytes the third is torn at 98,304;");
-    let cut = told(&log[..98_300], 262_144);
-    assert_eq!(cut[..2], whole[..2]);
-    assert_eq!(cut[2], "end, clean");
     says(
         &text,
-        "cut to 98,300 bytes, which is in the trailer, there are two records and a clean end.",
+        &format!("Cut to 106,310 bytes: the first two records; {}.", cut[2]),
+    );
+    let cut = told(&log[..98_300], 262_144);
+    assert_eq!(cut[..2], whole[..2]);
+    says(
+        &text,
+        &format!(
+            "Cut to 98,300 bytes, which is in the trailer: the first two records; {}.",
+            cut[2]
+        ),
     );
     log[40_000] ^= 1;
     let changed = told(&log, 262_144);
@@ -173,6 +177,30 @@ fn the_picture() {
             "at 40,000 changed: the first record; {}; the third record; {}.",
             changed[1..4].join("; "),
             changed[5]
+        ),
+    );
+}
+
+#[test]
+fn the_longest_record() {
+    let text = part("§9.5", "## 10.");
+    let mut log = vec![0; 600_000];
+    let Appended::Mark(mark) = append(&mut log, 0, &[7; 262_144]) else {
+        panic!("refused");
+    };
+    says(
+        &text,
+        &format!("is accepted, and the new mark is {}.", grouped(mark)),
+    );
+    let Appended::Refused { number, given } = append(&mut log, mark, &[7; 262_145]) else {
+        panic!("accepted");
+    };
+    let mark = grouped(mark);
+    says(
+        &text,
+        &format!(
+            "at mark {mark} is refused with number {number}, and the refusal carries {}.",
+            grouped(given)
         ),
     );
 }
