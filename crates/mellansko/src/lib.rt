@@ -1,4 +1,5 @@
-// The calls for C and Rust. Each only hands on to the call of the crate that does the work, and says its answer in numbers.
+// The calls for C and Rust. Each only hands on to the call of the crate that does the work, and says its answer in
+// numbers: docs/FORMAT.md, §10.1.
 mod numbers;
 
 ghost use mathlib.Core.Path.{_≡_};

@@ -1,4 +1,4 @@
-// Answers as ten numbers: log_format's specs/Format/Numbers.antt says which.
+// docs/FORMAT.md, §10.1: answers as ten numbers. log_format's specs/Format/Numbers.antt says which.
 ghost use mathlib.Core.Path.{_≡_};
 ghost use Rattle.log_format.specs.Format.Numbers as numbers;
 use log_format::Appended;
