@@ -199,7 +199,7 @@ fn the_longest_record() {
     says(
         &text,
         &format!(
-            "at mark {mark} is refused with number {number}, and the refusal carries {}.",
+            "at mark {mark} is refused with number {number}, and gives back {}.",
             grouped(given)
         ),
     );
