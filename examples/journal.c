@@ -15,62 +15,58 @@
 static uint8_t journal[80];
 static uint8_t buffer[MELLANSKO_LONGEST_RECORD];
 
-static const char *in_words(uint64_t reason)
-{
-    switch (reason) {
-    case MELLANSKO_BAD_LENGTH: return "a stored length runs past the end of its block";
-    case MELLANSKO_BLANK: return "a header with neither type nor length, as in a stretch of zeros";
-    case MELLANSKO_CHECKSUM: return "the stored checksum is not that of the bytes";
-    case MELLANSKO_INTERRUPTED: return "a record that breaks off before its last piece";
-    case MELLANSKO_ORPHAN: return "a piece of a record whose beginning is missing";
-    case MELLANSKO_UNKNOWN_TYPE: return "a piece of a kind that this format does not have";
-    case MELLANSKO_OVER_LIMIT: return "a record longer than the limit";
-    default: return "a reason that this program does not know";
-    }
-}
-
 /* Appends a record at the mark, and gives the new mark; the old one, if there is a refusal. */
 static size_t append(size_t mark, const char *text)
 {
-    uint64_t answer[MELLANSKO_ANSWER];
-    mellansko_append(journal, sizeof journal, mark, (const uint8_t *)text, strlen(text), answer);
-    if (answer[0] == MELLANSKO_ACCEPTED) {
-        printf("appended up to %" PRIu64 "\n", answer[1]);
-        return (size_t)answer[1];
+    struct mellansko_answer answer;
+    const uint8_t *record = (const uint8_t *)text;
+    switch (mellansko_append(journal, sizeof journal, mark, record, strlen(text), &answer)) {
+    case MELLANSKO_ACCEPTED:
+        printf("appended up to %" PRIu64 "\n", answer.accepted.mark);
+        return answer.accepted.mark;
+    default: /* MELLANSKO_APPEND_REFUSED */
+        printf("refused at %" PRIu64 ", %s: %s\n", answer.refused.given,
+               mellansko_refusal_text(answer.refused.number), text);
+        return answer.refused.given;
     }
-    printf("refused with %" PRIu64 " at %" PRIu64 ": %s\n", answer[1], answer[2], text);
-    return mark;
+}
+
+/* Prints a record's bytes, which are in the journal, or in the buffer if they were gathered. */
+static void print_bytes(const struct mellansko_record *record)
+{
+    const uint8_t *bytes = record->stored == MELLANSKO_WHOLE ? journal + record->data : buffer;
+    fwrite(bytes, 1, record->length, stdout);
+    printf("\n");
 }
 
 /* Reads the journal's first bytes as a log, from answer to answer up to the end. */
 static void read_all(size_t length)
 {
-    uint64_t answer[MELLANSKO_ANSWER];
+    struct mellansko_answer answer;
     size_t place = 0;
     for (;;) {
-        mellansko_next(journal, length, place, sizeof buffer, buffer, sizeof buffer, answer);
-        switch (answer[0]) {
+        switch (mellansko_next(journal, length, place, sizeof buffer, buffer, sizeof buffer,
+                               &answer)) {
         case MELLANSKO_RECORD:
-            printf("record %" PRIu64 " to %" PRIu64 ": ", answer[1], answer[2]);
-            fwrite(answer[4] == MELLANSKO_WHOLE ? journal + answer[5] : buffer, 1,
-                   (size_t)answer[3], stdout);
-            printf("\n");
+            printf("record %" PRIu64 " to %" PRIu64 ": ", answer.record.start, answer.record.end);
+            print_bytes(&answer.record);
             break;
         case MELLANSKO_SKIP:
-            printf("in doubt %" PRIu64 " to %" PRIu64 ": %s\n", answer[1], answer[2],
-                   in_words(answer[3]));
+            printf("in doubt %" PRIu64 " to %" PRIu64 ": %s\n", answer.skip.start, answer.skip.end,
+                   mellansko_reason_text(answer.skip.reason));
             break;
         case MELLANSKO_END:
-            if (answer[1] == MELLANSKO_TORN)
-                printf("torn from %" PRIu64 " to %" PRIu64 "\n", answer[2], (uint64_t)length);
+            if (answer.end.tail == MELLANSKO_TORN)
+                printf("torn from %" PRIu64 " to %zu\n", answer.end.start, length);
             else
-                printf("clean end at %" PRIu64 "\n", answer[6]);
+                printf("clean end at %" PRIu64 "\n", answer.end.place);
             return;
         default: /* MELLANSKO_NEXT_REFUSED */
-            printf("refused with %" PRIu64 " at %" PRIu64 "\n", answer[1], answer[2]);
+            printf("refused at %" PRIu64 ": %s\n", answer.refused.given,
+                   mellansko_refusal_text(answer.refused.number));
             return;
         }
-        place = (size_t)answer[6];
+        place = answer.place;
     }
 }
 
@@ -86,7 +82,7 @@ int main(void)
     printf("as written\n");
     read_all(mark);
 
-    /* A byte of the second record: all that is behind it in its block is in doubt too. */
+    /* A byte of the second record: all that comes after it in its block is in doubt too. */
     printf("with byte 40 changed\n");
     journal[40] ^= 1;
     read_all(mark);
@@ -94,5 +90,6 @@ int main(void)
 
     printf("cut 5 bytes before its end\n");
     read_all(mark - 5);
-    return 0;
+    /* What could not be written was not said. */
+    return fflush(stdout) != 0 || ferror(stdout);
 }

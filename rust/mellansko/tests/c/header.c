@@ -19,8 +19,11 @@ struct lent {
 };
 static struct lent now, before;
 
-/* More words than an answer has, all ones before a call. */
-static uint64_t words[MELLANSKO_ANSWER + 8];
+/* An answer and more words after it, all ones before a call. */
+static struct {
+    struct mellansko_answer answer;
+    uint64_t after[8];
+} lent_answer;
 
 static int failures;
 
@@ -37,15 +40,18 @@ static void holds(int line, const char *what, int claim)
 static void prepare(void)
 {
     memcpy(&before, &now, sizeof now);
-    memset(words, 0xFF, sizeof words);
+    memset(&lent_answer, 0xFF, sizeof lent_answer);
 }
 
-/* All ten words are written, and no other. */
-static void answered(int line, const uint64_t *expected)
+/* The kind is returned, all ten words are written, and no other. */
+static void answered(int line, uint64_t kind, const uint64_t *expected)
 {
     size_t i;
-    for (i = 0; i < sizeof words / sizeof *words; i++)
-        holds(line, "answer", words[i] == (i < MELLANSKO_ANSWER ? expected[i] : UINT64_MAX));
+    holds(line, "the kind", kind == expected[0]);
+    for (i = 0; i < MELLANSKO_ANSWER; i++)
+        holds(line, "answer", lent_answer.answer.words[i] == expected[i]);
+    for (i = 0; i < sizeof lent_answer.after / sizeof *lent_answer.after; i++)
+        holds(line, "what lies after the answer", lent_answer.after[i] == UINT64_MAX);
 }
 
 /* Nothing that is lent has changed but these bytes, which are put back to see it. */
@@ -62,9 +68,10 @@ static void changed_only(int line, uint8_t *bytes, size_t length)
 static void append(int line, size_t log_len, size_t mark, size_t length, const uint64_t *expected)
 {
     int accepted = expected[0] == MELLANSKO_ACCEPTED && expected[1] > mark;
+    uint64_t kind;
     prepare();
-    mellansko_append(now.log, log_len, mark, now.record, length, words);
-    answered(line, expected);
+    kind = mellansko_append(now.log, log_len, mark, now.record, length, &lent_answer.answer);
+    answered(line, kind, expected);
     if (accepted)
         changed_only(line, now.log + mark, (size_t)expected[1] - mark);
     else
@@ -77,9 +84,11 @@ static void next(int line, size_t log_len, size_t place, size_t limit, size_t bu
     int handed_out = expected[0] == MELLANSKO_RECORD;
     int gathered = handed_out && expected[4] == MELLANSKO_GATHERED;
     const uint8_t *bytes = gathered ? now.buffer : now.log + expected[5];
+    uint64_t kind;
     prepare();
-    mellansko_next(now.log, log_len, place, limit, now.buffer, buffer_len, words);
-    answered(line, expected);
+    kind = mellansko_next(now.log, log_len, place, limit, now.buffer, buffer_len,
+                          &lent_answer.answer);
+    answered(line, kind, expected);
     changed_only(line, now.buffer, gathered ? (size_t)expected[3] : 0);
     if (handed_out)
         holds(line, "a record's bytes", memcmp(bytes, now.record, (size_t)expected[3]) == 0);
@@ -106,6 +115,40 @@ static void put(size_t place, uint8_t type, size_t length)
     now.log[place + 4] = (uint8_t)length;
     now.log[place + 5] = 0;
     memcpy(now.log + place + 6, summed, 1 + length);
+}
+
+/* Which word a name stands for: what the calls write there, the expected answers below say. */
+#define WORD(name, number)                                         \
+    CHECK(offsetof(struct mellansko_answer, name) == 8 * number && \
+          sizeof ((struct mellansko_answer *)0)->name == 8)
+
+static void names(void)
+{
+    CHECK(sizeof(struct mellansko_answer) == 80);
+    WORD(words[9], 9);
+    WORD(kind, 0);
+    WORD(place, 6);
+    WORD(accepted.kind, 0);
+    WORD(accepted.mark, 1);
+    WORD(record.kind, 0);
+    WORD(record.start, 1);
+    WORD(record.end, 2);
+    WORD(record.length, 3);
+    WORD(record.stored, 4);
+    WORD(record.data, 5);
+    WORD(record.place, 6);
+    WORD(skip.kind, 0);
+    WORD(skip.start, 1);
+    WORD(skip.end, 2);
+    WORD(skip.reason, 3);
+    WORD(skip.place, 6);
+    WORD(end.kind, 0);
+    WORD(end.tail, 1);
+    WORD(end.start, 2);
+    WORD(end.place, 6);
+    WORD(refused.kind, 0);
+    WORD(refused.number, 1);
+    WORD(refused.given, 2);
 }
 
 static void sizes(void)
@@ -181,6 +224,7 @@ int main(void)
     CHECK(mellansko_crc32c(digits, 9) == 0xE3069283);
     CHECK(mellansko_crc32c(digits, 0) == 0);
     CHECK(mellansko_mask(1) == 0xA284EAD8);
+    names();
     sizes();
     refused_appends();
     refused_readings();

@@ -1,0 +1,126 @@
+//! include/mellansko.h: its figures, names, texts and warnings.
+
+use crate::folder::{root, Folder, Way, C, CLANG, CLANG_CPP, CPP, OLD_CPP, PLAIN_CPP, SANITIZED};
+use crate::{reason_text, refusal_text};
+use mellansko::{Condition, Reason};
+
+#[test]
+fn it_says_what_the_calls_do() {
+    let folder = Folder::new("header");
+    let source = root().join("rust/mellansko/tests/c/header.c");
+    for way in folder.there(&[C, CLANG, SANITIZED]) {
+        assert_eq!(folder.run(way, &source), "", "{way:?}");
+    }
+}
+
+/// It includes what it needs, can be included twice, and C++ takes it too.
+#[test]
+fn it_stands_alone() {
+    let folder = Folder::new("alone");
+    let source = "#include \"mellansko.h\"\n#include \"mellansko.h\"\n";
+    for way in folder.there(&[C, CLANG, CPP, CLANG_CPP, OLD_CPP, PLAIN_CPP]) {
+        compiles(&folder, way, source);
+    }
+}
+
+#[test]
+fn its_texts_are_those_of_the_rust_crate() {
+    let folder = Folder::new("texts");
+    let source = folder.file(
+        "texts.c",
+        "#include <stdio.h>\n#include \"mellansko.h\"\nint main(void) {\n\
+         for (int i = 0; i <= 8; i++) puts(mellansko_reason_text((uint64_t)i));\n\
+         for (int i = 0; i <= 7; i++) puts(mellansko_refusal_text((uint64_t)i));\n\
+         puts(mellansko_reason_text(UINT64_MAX));\n\
+         puts(mellansko_refusal_text(((uint64_t)1 << 32) + 1));\nreturn 0;\n}\n",
+    );
+    let [none, no] = [
+        "a number that is no reason's",
+        "a number that is no refusal's",
+    ];
+    assert_eq!((Reason::ALL.len(), Condition::ALL.len()), (7, 6));
+    let mut lines = vec![none.to_string()];
+    lines.extend((1..=7).map(reason_text));
+    lines.extend([none, no].map(String::from));
+    lines.extend((1..=6).map(refusal_text));
+    lines.extend([no, none, no].map(String::from));
+    for way in folder.there(&[C, CPP]) {
+        let printed = folder.run(way, &source);
+        assert_eq!(printed.lines().collect::<Vec<_>>(), lines, "{way:?}");
+    }
+}
+
+#[test]
+fn its_version_is_that_of_the_rust_crate() {
+    let folder = Folder::new("version");
+    let source = folder.file(
+        "version.c",
+        "#include <stdio.h>\n#include \"mellansko.h\"\nint main(void) {\n\
+         printf(\"%s %d.%d.%d\", MELLANSKO_VERSION, MELLANSKO_VERSION_MAJOR,\n\
+         MELLANSKO_VERSION_MINOR, MELLANSKO_VERSION_PATCH);\nreturn 0;\n}\n",
+    );
+    let version = env!("CARGO_PKG_VERSION");
+    for way in folder.there(&[C]) {
+        assert_eq!(folder.run(way, &source), format!("{version} {version}"));
+    }
+}
+
+/// The calls as they are to be made, with a result that is used, and no NULL.
+const CALLS: [&str; 4] = [
+    "mellansko_append(log, 9, 0, record, 2, &answer)",
+    "mellansko_next(log, 9, 0, 2, record, 2, &answer)",
+    "mellansko_crc32c(record, 2)",
+    "mellansko_mask(7)",
+];
+
+fn program(statement: &str) -> String {
+    format!(
+        "#include \"mellansko.h\"\nint used(uint64_t result);\nint calls(void);\n\
+         int calls(void)\n{{\nstatic uint8_t log[9], record[2];\n\
+         static struct mellansko_answer answer;\n(void)log, (void)record, (void)answer;\n\
+         {statement};\nreturn 0;\n}}\n"
+    )
+}
+
+#[test]
+fn a_dropped_answer_is_warned_of() {
+    let folder = Folder::new("dropped");
+    for way in folder.there(&[C, CLANG, CPP, CLANG_CPP, PLAIN_CPP]) {
+        for call in CALLS {
+            compiles(&folder, way, &program(&format!("used({call})")));
+            fails(&folder, way, &program(call), "unused");
+        }
+    }
+}
+
+#[test]
+fn a_pointer_that_is_null_is_warned_of() {
+    let folder = Folder::new("null");
+    for way in folder.there(&[C, CLANG, CPP, CLANG_CPP]) {
+        for call in CALLS {
+            for pointer in ["log", "record", "&answer"] {
+                if let Some((before, after)) = call.split_once(&format!("({pointer},")) {
+                    let call = format!("used({before}(NULL,{after})");
+                    fails(&folder, way, &program(&call), "nonnull");
+                } else if let Some((before, after)) = call.split_once(&format!(" {pointer}")) {
+                    let call = format!("used({before} NULL{after})");
+                    fails(&folder, way, &program(&call), "nonnull");
+                }
+            }
+        }
+    }
+}
+
+fn compiles(folder: &Folder, way: Way, source: &str) {
+    let compiled = folder.compiled(way, source);
+    let said = String::from_utf8_lossy(&compiled.stderr);
+    assert!(compiled.status.success(), "{way:?}\n{source}\n{said}");
+}
+
+/// The warning, which is an error, names this.
+fn fails(folder: &Folder, way: Way, source: &str, names: &str) {
+    let compiled = folder.compiled(way, source);
+    let said = String::from_utf8_lossy(&compiled.stderr);
+    assert!(!compiled.status.success(), "{way:?}\n{source}");
+    assert!(said.contains(names), "{way:?}\n{source}\n{said}");
+}
