@@ -1,5 +1,7 @@
 //! The header for C, the examples that use it, and the script that installs it.
 
+#[path = "c/files.rs"]
+mod files;
 #[path = "c/folder.rs"]
 mod folder;
 #[path = "c/header.rs"]

@@ -1,0 +1,52 @@
+/*
+ * examples/append_file.c, with calls of the system that do less than they are asked to. Which, the
+ * variable FAULT says. To be linked with --wrap for each of the three.
+ */
+#include "../../../../examples/append_file.c"
+
+#include <stdlib.h>
+
+#define AT_ONCE 1000
+
+ssize_t __real_pwrite(int file, const void *bytes, size_t length, off_t place);
+ssize_t __wrap_pwrite(int file, const void *bytes, size_t length, off_t place);
+int __real_fsync(int file);
+int __wrap_fsync(int file);
+int __real_ftruncate(int file, off_t length);
+int __wrap_ftruncate(int file, off_t length);
+
+static int is_fault(const char *name)
+{
+    const char *fault = getenv("FAULT");
+    return fault != NULL && strstr(fault, name) != NULL;
+}
+
+static int fails(int error)
+{
+    errno = error;
+    return -1;
+}
+
+/* Every second time it is interrupted, and it writes some of the bytes only. */
+ssize_t __wrap_pwrite(int file, const void *bytes, size_t length, off_t place)
+{
+    static int calls;
+    if (calls++ % 2 == 0)
+        return fails(EINTR);
+    if (is_fault("full") && calls > 4)
+        return fails(ENOSPC);
+    if (is_fault("zero") && calls > 4)
+        return 0;
+    return __real_pwrite(file, bytes, length < AT_ONCE ? length : AT_ONCE, place);
+}
+
+int __wrap_fsync(int file)
+{
+    static int calls;
+    return is_fault("fsync") && calls++ == 0 ? fails(EIO) : __real_fsync(file);
+}
+
+int __wrap_ftruncate(int file, off_t length)
+{
+    return is_fault("cut") ? fails(EIO) : __real_ftruncate(file, length);
+}

@@ -1,0 +1,289 @@
+//! examples/read_file.c and examples/append_file.c, held to the reference.
+
+use crate::folder::{left_out, root, Folder, Way, C, CLANG, SANITIZED};
+use crate::{reason_text, refusal_text};
+use reference::log::{append, next, Appended, Next, Tail, LONGEST_LOG, LONGEST_RECORD};
+use std::fs::{self, File};
+use std::io::Write as _;
+use std::path::Path;
+use std::process::{Command, Output, Stdio};
+
+/// With the faults of tests/c/faults.c.
+const FAULTS: Way = &[
+    "cc",
+    "-std=c99",
+    "-Wall",
+    "-Wextra",
+    "-Werror",
+    "-Wl,--wrap=pwrite,--wrap=fsync,--wrap=ftruncate",
+];
+
+#[test]
+fn a_file_is_read_as_the_reference_reads_it() {
+    let folder = Folder::new("read");
+    let files = [
+        "clean.log",
+        "damaged.log",
+        "leveldb.log",
+        "torn.log",
+        "README.md",
+    ]
+    .map(|name| root().join("samples").join(name));
+    for way in folder.there(&[C, SANITIZED, CLANG]) {
+        let program = folder.program(way, &root().join("examples/read_file.c"));
+        for file in [&files[..], &[folder.file("empty", "")]].concat() {
+            let (lines, status) = reading(&fs::read(&file).expect("a file"));
+            let ran = run(Command::new(&program).arg(&file), b"");
+            assert_eq!(printed(&ran), (lines, status), "{way:?} {}", file.display());
+            assert_eq!(ran.stderr, b"");
+        }
+    }
+}
+
+#[test]
+fn a_file_that_can_not_be_read_is_no_whole_journal() {
+    let folder = Folder::new("unread");
+    let long = folder.file("long", "");
+    for way in folder.there(&[C, SANITIZED]) {
+        let program = folder.program(way, &root().join("examples/read_file.c"));
+        let fails = |file: &Path, says: &str| {
+            let ran = run(Command::new(&program).arg(file), b"");
+            assert_eq!(printed(&ran), (String::new(), 2));
+            assert!(said(&ran).contains(says), "{}", said(&ran));
+        };
+        fails(&folder.0.join("none"), "No such file");
+        fails(&folder.0, "Is a directory");
+        set_length(&long, LONGEST_LOG + 1);
+        fails(&long, &refusal_text(1));
+        set_length(&long, LONGEST_LOG);
+        let ran = run(Command::new(&program).arg(&long), b"");
+        assert_eq!(ran.status.code(), Some(1));
+        assert_eq!(run(&mut Command::new(&program), b"").status.code(), Some(2));
+        // What can't be printed was not said.
+        if let Ok(full) = File::options().write(true).open("/dev/full") {
+            let mut command = Command::new(&program);
+            let status = command
+                .arg(&long)
+                .stdout(full)
+                .stderr(Stdio::null())
+                .status();
+            assert_eq!(status.expect("the program").code(), Some(2));
+        }
+    }
+}
+
+/// At every place around a block's end, and of a file that has bytes of any kind: they are not read.
+#[test]
+fn a_record_is_appended_as_the_reference_appends_it() {
+    let folder = Folder::new("append");
+    let file = folder.0.join("journal");
+    for way in folder.there(&[SANITIZED]) {
+        let program = folder.program(way, &root().join("examples/append_file.c"));
+        let others = [0, 1, 7, 20, 65_529, 65_535, 65_536, 100_000, 1_000_000];
+        for length in others.into_iter().chain(32_760..=32_775) {
+            for record in [0, 1, 32_761, 65_523, LONGEST_RECORD] {
+                let record = some_bytes(record, 7);
+                let old = some_bytes(length, 31);
+                fs::write(&file, &old).expect("a file");
+                let ran = run(Command::new(&program).arg(&file), &record);
+                assert_eq!((printed(&ran).1, said(&ran)), (0, String::new()));
+                let expected = appended(old, &record);
+                let found = fs::read(&file).expect("the file");
+                assert!(found == expected, "{length} and {}", record.len());
+            }
+        }
+    }
+}
+
+/// From nothing, record after record, some of them from the command line.
+#[test]
+fn what_is_appended_reads_back() {
+    let folder = Folder::new("appends");
+    let file = folder.file("journal", "");
+    for way in folder.there(&[C, CLANG]) {
+        let [append, read] = ["append_file", "read_file"]
+            .map(|name| folder.program(way, &root().join(format!("examples/{name}.c"))));
+        let mut expected = Vec::new();
+        fs::write(&file, "").expect("the file");
+        for length in [0, 5, 32_000, 737, 12, 0, 262_144, 1, 40_000, 100] {
+            let record = some_bytes(length, 3);
+            run(Command::new(&append).arg(&file), &record);
+            let ran = run(Command::new(&append).arg(&file).arg("LW10-1 0.9137"), b"no");
+            assert_eq!(printed(&ran), (String::new(), 0), "{}", said(&ran));
+            expected = appended(appended(expected, &record), b"LW10-1 0.9137");
+            assert!(fs::read(&file).expect("the file") == expected, "{length}");
+        }
+        let ran = run(Command::new(&read).arg(&file), b"");
+        assert_eq!(printed(&ran), reading(&expected));
+        assert_eq!(printed(&ran).1, 0);
+    }
+}
+
+#[test]
+fn what_is_refused_leaves_the_file_as_it_was() {
+    let folder = Folder::new("refused");
+    let file = folder.file("journal", some_bytes(100, 3));
+    for way in folder.there(&[C, SANITIZED]) {
+        let program = folder.program(way, &root().join("examples/append_file.c"));
+        let refused = |file: &Path, record: &[u8], says: &str| {
+            let before = fs::metadata(file).ok().map(|file| file.len());
+            let ran = run(Command::new(&program).arg(file), record);
+            assert_eq!(printed(&ran), (String::new(), 2));
+            assert!(said(&ran).contains(says), "{}", said(&ran));
+            assert_eq!(fs::metadata(file).ok().map(|file| file.len()), before);
+        };
+        let long = some_bytes(LONGEST_RECORD + 1, 3);
+        refused(&file, &long, &refusal_text(3));
+        refused(&folder.0.join("none"), b"x", "No such file");
+        refused(&folder.0, b"x", "Is a directory");
+        refused(Path::new("/dev/null"), b"x", "plain file");
+        let lock = File::open(&file).expect("the file");
+        lock.lock().expect("a lock");
+        refused(&file, b"x", "locked");
+        drop(lock);
+        assert_eq!(fs::read(&file).expect("the file"), some_bytes(100, 3));
+        // Up to a journal's longest, and no further.
+        let full = folder.file("full", "");
+        set_length(&full, LONGEST_LOG - 8);
+        refused(&full, b"xy", "no room");
+        let ran = run(Command::new(&program).arg(&full), b"x");
+        assert_eq!(printed(&ran).1, 0, "{}", said(&ran));
+        assert_eq!(
+            fs::metadata(&full).expect("the file").len(),
+            LONGEST_LOG as u64
+        );
+        refused(&full, b"", "no room");
+        set_length(&full, LONGEST_LOG + 32_768);
+        refused(&full, b"", "no room");
+    }
+}
+
+/// Interrupted, short and failing writes, and a disk that does not take them.
+#[test]
+fn a_write_that_fails_is_cut_off_again() {
+    let folder = Folder::new("faults");
+    let file = folder.0.join("journal");
+    let old = some_bytes(32_700, 3);
+    let record = some_bytes(10_000, 7);
+    for way in folder.there(&[FAULTS]) {
+        let source = root().join("rust/mellansko/tests/c/faults.c");
+        let program = folder.program(way, &source);
+        let run = |fault: &str| {
+            fs::write(&file, &old).expect("a file");
+            let ran = run(
+                Command::new(&program).env("FAULT", fault).arg(&file),
+                &record,
+            );
+            (
+                printed(&ran).1,
+                said(&ran),
+                fs::read(&file).expect("the file"),
+            )
+        };
+        assert!(run("") == (0, String::new(), appended(old.clone(), &record)));
+        for fault in ["full", "zero", "fsync"] {
+            let (status, said, found) = run(fault);
+            assert_eq!((status, found.len()), (2, old.len()), "{fault}: {said}");
+            assert!(said.contains("nothing was appended"), "{fault}: {said}");
+            assert!(found == old, "{fault}");
+        }
+        for fault in ["full cut", "zero cut", "fsync cut"] {
+            let (status, said, found) = run(fault);
+            assert_eq!(
+                (status, found.len() > old.len()),
+                (2, true),
+                "{fault}: {said}"
+            );
+            let says = "nor be cut back to its 32700 bytes";
+            assert!(said.contains(says), "{fault}: {said}");
+        }
+    }
+}
+
+/// The kernel's own refusal, in the middle of a write.
+#[test]
+fn a_file_that_may_not_grow_is_cut_back() {
+    let folder = Folder::new("limit");
+    let old = some_bytes(32_000, 3);
+    let file = folder.file("journal", &old);
+    for way in folder.there(&[C]) {
+        let program = folder.program(way, &root().join("examples/append_file.c"));
+        // 64 times 512 bytes.
+        let limited = "trap '' XFSZ && ulimit -f 64 && exec \"$0\" \"$1\"";
+        let mut shell = Command::new("sh");
+        shell.args(["-c", limited]).arg(program).arg(&file);
+        let ran = run(&mut shell, &some_bytes(5_000, 7));
+        if !said(&ran).contains("File too large") {
+            left_out(&format!("a limit on a file's length: {}", said(&ran)));
+            continue;
+        }
+        assert_eq!(ran.status.code(), Some(2));
+        assert!(fs::read(&file).expect("the file") == old);
+    }
+}
+
+/// What read_file prints of a log, and its status, if its calls are the reference's.
+fn reading(log: &[u8]) -> (String, i32) {
+    let mut lines = String::new();
+    let mut buffer = vec![0; LONGEST_RECORD];
+    let (mut place, mut status) = (0, 0);
+    loop {
+        let answer = next(log, place, LONGEST_RECORD, &mut buffer);
+        place = answer.place_after(log);
+        match answer {
+            Next::Record {
+                start, end, length, ..
+            } => lines += &format!("record {start} to {end}: {length} bytes\n"),
+            Next::Skip { start, end, reason } => {
+                lines += &format!("in doubt {start} to {end}: {}\n", reason_text(reason));
+                status = 1;
+            }
+            Next::End(Tail::Clean) => return (lines + &format!("clean end at {place}\n"), status),
+            Next::End(Tail::Torn(start)) => {
+                return (lines + &format!("torn from {start} to {}\n", log.len()), 1);
+            }
+            Next::Refused { number, .. } => panic!("refused with {number}"),
+        }
+    }
+}
+
+fn appended(mut log: Vec<u8>, record: &[u8]) -> Vec<u8> {
+    let mark = log.len();
+    log.resize(mark + record.len() + 1_000, 0);
+    let Appended::Mark(end) = append(&mut log, mark, record) else {
+        panic!("no room");
+    };
+    log.truncate(end);
+    log
+}
+
+/// Bytes that do not repeat from block to block.
+fn some_bytes(length: usize, step: usize) -> Vec<u8> {
+    (0..length).map(|i| (i * step % 251) as u8).collect()
+}
+
+fn set_length(path: &Path, length: usize) {
+    let file = File::options().write(true).open(path).expect("the file");
+    file.set_len(length as u64).expect("a length");
+}
+
+/// Runs it with these bytes on standard input.
+fn run(command: &mut Command, input: &[u8]) -> Output {
+    let piped = command.stdin(Stdio::piped()).stdout(Stdio::piped());
+    let mut child = piped.stderr(Stdio::piped()).spawn().expect("the program");
+    let mut pipe = child.stdin.take().expect("standard input");
+    // It may end without having read all of it.
+    let _ = pipe.write_all(input);
+    drop(pipe);
+    child.wait_with_output().expect("the program")
+}
+
+/// What it printed, and its exit status.
+fn printed(ran: &Output) -> (String, i32) {
+    let text = String::from_utf8_lossy(&ran.stdout).into_owned();
+    (text, ran.status.code().expect("a status, and no signal"))
+}
+
+fn said(ran: &Output) -> String {
+    String::from_utf8_lossy(&ran.stderr).into_owned()
+}
