@@ -6,6 +6,8 @@ mod files;
 mod folder;
 #[path = "c/header.rs"]
 mod header;
+#[path = "c/install.rs"]
+mod install;
 #[path = "c/journal.rs"]
 mod journal;
 
