@@ -4,9 +4,9 @@
  *   cc -std=c99 -Iinclude examples/append_file.c target/staticlib/libmellansko.a -o append_file &&
  *   : >new.log && ./append_file new.log 'LW10-1 0.9137' && ./append_file new.log <record
  *
- * It holds one block and one record's room in memory, and not the file: what an append adds depends
- * on the mark by its place in the block alone. So it appends in a scratch log at the file's length
- * modulo 32,768, and writes what was added at the file's end.
+ * It holds one block and a record's room in memory, and not the file: what an append adds depends
+ * on the record and on the mark's place in its block alone (docs/FORMAT.md). So it appends in a
+ * scratch log at the file's length modulo 32,768, and writes what was added at the file's end.
  *
  * It does not read the journal. The caller must know that all of it reads with no skip and a clean
  * end, as `mellansko verify` says: a record after what is in doubt, or after a torn tail, may not
@@ -17,7 +17,7 @@
  * whole, or not be brought to the disk, is cut off again; if that fails too, it says so, and the
  * journal is not to be appended to any more. If the power goes, the tail may be torn.
  *
- * The exit status is 0 if the record is in the file, and 2 if not.
+ * The exit status is 0 if the record is in the file and on the disk, and 2 if not.
  */
 #define _POSIX_C_SOURCE 200809L
 #include <errno.h>
@@ -99,8 +99,8 @@ static int put(int file, const char *name, const uint8_t *added, size_t length, 
     why = strerror(errno);
     if (ftruncate(file, end) == 0 && fsync(file) == 0)
         return fail(name, why);
-    fprintf(stderr, "%s: could not be written (%s), nor be cut back to its %jd bytes: do not append\n",
-            name, why, (intmax_t)end);
+    fprintf(stderr, "%s: could not be written (%s), nor be cut back to its %jd bytes\n", name, why,
+            (intmax_t)end);
     return 0;
 }
 

@@ -31,25 +31,20 @@ static size_t append(size_t mark, const char *text)
     }
 }
 
-/* Prints a record's bytes, which are in the journal, or in the buffer if they were gathered. */
-static void print_bytes(const struct mellansko_record *record)
-{
-    const uint8_t *bytes = record->stored == MELLANSKO_WHOLE ? journal + record->data : buffer;
-    fwrite(bytes, 1, record->length, stdout);
-    printf("\n");
-}
-
 /* Reads the journal's first bytes as a log, from answer to answer up to the end. */
 static void read_all(size_t length)
 {
     struct mellansko_answer answer;
+    const uint8_t *bytes;
     size_t place = 0;
     for (;;) {
         switch (mellansko_next(journal, length, place, sizeof buffer, buffer, sizeof buffer,
                                &answer)) {
         case MELLANSKO_RECORD:
+            bytes = answer.record.stored == MELLANSKO_WHOLE ? journal + answer.record.data : buffer;
             printf("record %" PRIu64 " to %" PRIu64 ": ", answer.record.start, answer.record.end);
-            print_bytes(&answer.record);
+            fwrite(bytes, 1, answer.record.length, stdout);
+            printf("\n");
             break;
         case MELLANSKO_SKIP:
             printf("in doubt %" PRIu64 " to %" PRIu64 ": %s\n", answer.skip.start, answer.skip.end,

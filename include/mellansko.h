@@ -17,7 +17,7 @@
  * this:
  *
  * - No pointer is NULL, not even one with length 0. A pointer and a length are a slice that really
- *   has that many bytes. A slice may start at any address.
+ *   has that many bytes. A slice may start at any address, an answer where C may put one.
  * - What a call writes (an append's log, a reading's buffer, the answer) overlaps nothing else that
  *   it is passed, and no other thread uses it until the call returns. Nothing writes what it reads.
  *
@@ -47,7 +47,7 @@
 #define MELLANSKO_LONGEST_RECORD 262144
 #define MELLANSKO_LONGEST_LOG 16777216
 
-/* What a compiler is told, if it knows the words: a dropped answer and a NULL are warned of. */
+/* For compilers that know the words: they warn of a result that is dropped, and of a NULL. */
 #if defined(__GNUC__)
 #define MELLANSKO_KEEP __attribute__((__warn_unused_result__))
 #define MELLANSKO_NOT_NULL __attribute__((__nonnull__))
@@ -106,7 +106,7 @@ MELLANSKO_UNNAMED struct mellansko_answer {
     };
 };
 
-/* It does not compile where these words would not be the calls'. */
+/* Where these would be other words than the calls', it does not compile. */
 typedef char mellansko_answer_has_the_words_of_the_calls[
     sizeof(struct mellansko_answer) == 8 * MELLANSKO_ANSWER &&
     offsetof(struct mellansko_answer, kind) == 0 &&
@@ -153,10 +153,10 @@ enum mellansko_reason {
                                     limit; sound fragments of it after that one are orphans */
 };
 
-/* An end's tail. */
+/* An end's tail. The end's start is 0 if it is clean. */
 enum mellansko_tail {
-    MELLANSKO_CLEAN = 0,  /* nothing is begun and not finished; the end's start is 0 */
-    MELLANSKO_TORN = 1    /* the log ends inside of what begins at the end's start */
+    MELLANSKO_CLEAN = 0,  /* nothing is begun and not finished. So ends a log cut between records */
+    MELLANSKO_TORN = 1    /* the log ends inside of what starts at the end's start */
 };
 
 /* ---- writing */

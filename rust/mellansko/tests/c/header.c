@@ -164,7 +164,7 @@ static void sizes(void)
     APPEND(100000, MELLANSKO_BLOCK - 6, 3, MELLANSKO_ACCEPTED, MELLANSKO_BLOCK + HEADER + 3);
 }
 
-/* Each condition alone or with all that have a higher number, and its neighbour that is accepted. */
+/* Each condition alone or with all of a higher number, and its neighbour that is accepted. */
 static void refused_appends(void)
 {
     const size_t log = MELLANSKO_LONGEST_LOG, record = MELLANSKO_LONGEST_RECORD;
