@@ -24,9 +24,10 @@
  * The calls allocate nothing, share no state, and keep nothing of what they are passed. They take
  * time in proportion to the bytes that they look at. They are for Linux on x86-64.
  *
- * What no reader of this format can tell: whether a log was cut exactly between two records;
- * whether a block was left out, is there twice, or was replaced by another sound one, where what is
- * then there reads as records; whether bytes with a right checksum are those that were written.
+ * What no reader of this format can tell: whether a log was cut exactly between two records, or in
+ * a trailer there; whether a block was left out, is there twice, or was replaced by another sound
+ * one, where what is then there reads as records; whether bytes with a right checksum are those
+ * that were written.
  *
  * `rt staticlib mellansko` makes the archive to link with, target/staticlib/libmellansko.a, and
  * `./install PREFIX` installs it with this header. examples/journal.c is a program to start from,
@@ -108,7 +109,7 @@ MELLANSKO_UNNAMED struct mellansko_answer {
 
 /* Where these would be other words than the calls', it does not compile. */
 typedef char mellansko_answer_has_the_words_of_the_calls[
-    sizeof(struct mellansko_answer) == 8 * MELLANSKO_ANSWER &&
+    sizeof(struct mellansko_answer) == 80 &&
     offsetof(struct mellansko_answer, kind) == 0 &&
     offsetof(struct mellansko_answer, place) == 48 &&
     offsetof(struct mellansko_answer, accepted.mark) == 8 &&

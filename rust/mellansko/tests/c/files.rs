@@ -5,7 +5,7 @@ use crate::{reason_text, refusal_text};
 use reference::log::{append, next, Appended, Next, Tail, LONGEST_LOG, LONGEST_RECORD};
 use std::fs::{self, File};
 use std::io::Write as _;
-use std::path::Path;
+use std::path::{Path, PathBuf};
 use std::process::{Command, Output, Stdio};
 
 /// With the faults of tests/c/faults.c.
@@ -18,22 +18,22 @@ const FAULTS: Way = &[
     "-Wl,--wrap=pwrite,--wrap=fsync,--wrap=ftruncate",
 ];
 
+/// The samples, the texts beside them, and nothing.
 #[test]
 fn a_file_is_read_as_the_reference_reads_it() {
     let folder = Folder::new("read");
-    let files = [
-        "clean.log",
-        "damaged.log",
-        "leveldb.log",
-        "torn.log",
-        "README.md",
-    ]
-    .map(|name| root().join("samples").join(name));
+    let samples = fs::read_dir(root().join("samples")).expect("the samples");
+    let mut files: Vec<PathBuf> = samples
+        .map(|entry| entry.expect("an entry").path())
+        .collect();
+    let logs = |file: &&PathBuf| file.extension().is_some_and(|end| end == "log");
+    assert!(files.iter().filter(logs).count() >= 4, "{files:?}");
+    files.push(folder.file("empty", ""));
     for way in folder.there(&[C, SANITIZED, CLANG]) {
         let program = folder.program(way, &root().join("examples/read_file.c"));
-        for file in [&files[..], &[folder.file("empty", "")]].concat() {
-            let (lines, status) = reading(&fs::read(&file).expect("a file"));
-            let ran = run(Command::new(&program).arg(&file), b"");
+        for file in &files {
+            let (lines, status) = reading(&fs::read(file).expect("a file"));
+            let ran = run(Command::new(&program).arg(file), b"");
             assert_eq!(printed(&ran), (lines, status), "{way:?} {}", file.display());
             assert_eq!(ran.stderr, b"");
         }
