@@ -186,7 +186,11 @@ fn replaces_all_or_nothing(copy: &Copy) {
         }
     };
     age();
+    // A program that runs meanwhile has the old file: a new one gets its name.
+    let kept = copy.path("kept");
+    fs::hard_link(prefix.join(FILES[0]), &kept).expect("another name");
     succeeded(copy.install().arg(&prefix));
+    assert_eq!(fs::read(kept).expect("the old file"), b"old");
     same(&prefix.join(FILES[2]), &copy.archive);
     assert_eq!(found(&prefix), FILES);
     for file in FILES {
@@ -201,6 +205,14 @@ fn replaces_all_or_nothing(copy: &Copy) {
         assert_eq!(found(&prefix).len(), 3);
         fs::remove_dir(prefix.join(file)).expect("the folder");
     }
+    // With one of them copied already.
+    age();
+    let header = copy.path("a copy/include/mellansko.h");
+    fs::rename(&header, copy.path("away")).expect("the header");
+    copy.fails(copy.install().arg(&prefix), "Nothing was installed");
+    assert_eq!(found(&prefix), FILES);
+    assert_eq!(fs::read(prefix.join(FILES[0])).expect("a file"), b"old");
+    fs::rename(copy.path("away"), header).expect("the header");
     age();
     fs::remove_dir_all(prefix.join("include")).expect("the folder");
     fs::write(prefix.join("include"), "").expect("a file in its place");
@@ -222,10 +234,12 @@ fn it_says_what_it_takes_and_what_is_missing() {
     copy.fails(copy.install().args(["one", "two"]), "name one folder");
     assert_eq!(copy.calls(), "");
 
-    // An rt that makes nothing, and none.
-    copy.archive = copy.path("none");
-    copy.fails(copy.install().arg("pre"), "Nothing was installed");
-    assert_eq!(copy.calls(), "staticlib mellansko\n");
+    // An rt that fails, one that makes nothing, and none.
+    for archive in [copy.path("none"), PathBuf::new()] {
+        copy.archive = archive;
+        copy.fails(copy.install().arg("pre"), "the archive could not be made");
+    }
+    assert_eq!(copy.calls(), "staticlib mellansko\n".repeat(2));
     let few = copy.path("few");
     fs::create_dir(&few).expect("a folder");
     let path = env::var_os("PATH").unwrap_or_default();
