@@ -5,7 +5,7 @@
  *   : >new.log && ./append_file new.log 'LW10-1 0.9137' && ./append_file new.log <record
  *
  * It holds one block and a record's room in memory, and not the file: what an append adds depends
- * on the record and on the mark's place in its block alone (docs/FORMAT.md). So it appends in a
+ * on the record and on the mark's place in its block alone (docs/FORMAT.md 3.9). So it appends in a
  * scratch log at the file's length modulo 32,768, and writes what was added at the file's end.
  *
  * It does not read the journal. The caller must know that all of it reads with no skip and a clean

@@ -1,11 +1,11 @@
 /*
  * Mellansko: a writer and a reader of journals in the LevelDB log format, for C99 and C++.
  *
- * A log is a run of bytes that the caller lends, in blocks of 32,768 from its first byte on. A
- * record is 0 to 262,144 bytes of the caller's. It is stored as one or more fragments, each a
- * header of 7 bytes and then data; none crosses a block's end, and fewer than 7 bytes before one
- * are a trailer, no part of a record. A record's span runs from its first header to its last
- * fragment's end. docs/FORMAT.md has the format's rules.
+ * A log is bytes that the caller lends, in blocks of 32,768 from the first on. A record is 0 to
+ * 262,144 bytes of the caller's. It is stored as one or more fragments, each a header of 7 bytes
+ * and then data; none crosses a block's end, and fewer than 7 bytes before one are a trailer, no
+ * part of a record. A record's span is the range of its fragments, their headers included.
+ * docs/FORMAT.md has the rules, and numbers here, as 3.7, are that page's.
  *
  * The mark is how many bytes of a log are used: mellansko_append writes a record there and answers
  * the new mark. A place is where mellansko_next reads: 0, and then what the last answer says. It
@@ -24,10 +24,9 @@
  * The calls allocate nothing, share no state, and keep nothing of what they are passed. They take
  * time in proportion to the bytes that they look at. They are for Linux on x86-64.
  *
- * What no reader of this format can tell: whether a log was cut exactly between two records, or in
- * a trailer there; whether a block was left out, is there twice, or was replaced by another sound
- * one, where what is then there reads as records; whether bytes with a right checksum are those
- * that were written.
+ * What no reader of this format can always tell (8): whether a log was cut exactly between two
+ * records; whether a block was left out, is there twice, or was replaced by another sound one;
+ * whether bytes with a right checksum are those that were written.
  *
  * `rt staticlib mellansko` makes the archive to link with, target/staticlib/libmellansko.a, and
  * `./install PREFIX` installs it with this header. examples/journal.c is a program to start from,
@@ -85,7 +84,7 @@ enum mellansko_next_kind {
     MELLANSKO_NEXT_REFUSED = 3
 };
 
-/* The words of an answer: a call always writes all ten. Those that its kind does not name are 0. */
+/* The words of an answer (10.1): a call writes all ten. Those that its kind does not name are 0. */
 #define MELLANSKO_ANSWER 10
 
 /* Each begins with word 0 of an answer. An end is exclusive. */
@@ -119,7 +118,7 @@ typedef char mellansko_answer_has_the_words_of_the_calls[
     offsetof(struct mellansko_answer, refused.given) == 16 ? 1 : -1];
 
 /*
- * A refusal's number: why the call did nothing. No lent byte but the answer's has changed. Where
+ * A refusal's number (5): why the call did nothing. No lent byte but the answer's has changed. If
  * several conditions hold, it is the lowest number. There are no other refusals. Its `given` is the
  * mark or place that the call was given.
  */
@@ -139,8 +138,8 @@ enum mellansko_stored {
 };
 
 /*
- * A skip's reason: why its range can't be trusted. Reasons 1 to 3 range from a header to the end of
- * the block or of the log, whichever is sooner, since the length may be the damaged part.
+ * A skip's reason (4.7): why its range can't be trusted. With reasons 1 to 3 all that is left of
+ * the block, or of a log that ends sooner, is skipped: it may be the length that is damaged.
  */
 enum mellansko_reason {
     MELLANSKO_BAD_LENGTH = 1,    /* the header's length runs past the end of the block */
@@ -177,11 +176,11 @@ enum mellansko_tail {
  * skip and a clean end. If not, begin another log: a record after what is in doubt may be skipped
  * with it, and one at the start of a torn tail writes over what the tail holds.
  *
- * The size added, by which the mark moves on: let r be the bytes left in the mark's block, 32,768
- * at its start; let p be r if r is under 7, else 0; and let a be the room for data in the first
- * fragment, 32,761 if r is under 7, else r - 7. A record of n bytes adds p + 7 + n if n is at most
- * a, and otherwise p + n + 7 * (1 + (n - a) / 32,761), the quotient rounded up. Its span starts at
- * mark + p, after the trailer, which is p zeros.
+ * How many bytes are added can be known before (3.7). Let r = 32,768 - mark % 32,768, what is left
+ * of the block. If r < 7 there is a trailer first, of p = r zeros, and room for a = 32,761 bytes of
+ * data in the first fragment; otherwise p = 0 and a = r - 7. If a record's n bytes are a or fewer,
+ * it adds p + 7 + n; else p + n + 7 * (1 + q), q being (n - a) / 32,761 rounded up. Its span starts
+ * at mark + p. The bytes added depend on the record and on mark % 32,768 alone (3.9).
  */
 MELLANSKO_KEEP MELLANSKO_NOT_NULL
 uint64_t mellansko_append(uint8_t *log, size_t log_len, size_t mark, const uint8_t *record,
@@ -201,16 +200,16 @@ uint64_t mellansko_append(uint8_t *log, size_t log_len, size_t mark, const uint8
  *
  * The log is never written. Of the buffer the first length bytes are, for a gathered record alone.
  *
- * All but a refusal have the place to go on from: a record's or a skip's end, the log's length at a
- * clean end, the tail's start at a torn one. To read a log, call at place 0 and then at each
- * answer's place, up to the end. Each answer but the end moves on by 7 or more, so that takes
- * log_len / 7 + 1 calls at most. Every byte is then in exactly one span, skipped range or torn
- * tail, or in a trailer outside of these. A call at any other place reads a header where there may
- * be none.
+ * All but a refusal have a place to go on from (4.2): that of a record or a skip is its end, that
+ * of a clean end log_len, and that of a torn one the tail's start. To read a log, call at place 0
+ * and then at each answer's place, up to the end. After a record or a skip it is greater by 7 at
+ * least, so that takes log_len / 7 + 1 calls at most (6.3). Every byte is then in exactly one span,
+ * skipped range or torn tail, or in a trailer outside of these (6.2). A call at any other place
+ * reads a header where there may be none.
  *
  * Do not treat what is skipped or torn as never written. A torn tail may be the record that was
  * being written when the power went. But it may also hold records that were written whole: a
- * damaged length in the last block that runs past the log's end looks the same.
+ * damaged length in the last block that runs past the log's end looks the same (8.4).
  */
 MELLANSKO_KEEP MELLANSKO_NOT_NULL
 uint64_t mellansko_next(const uint8_t *log, size_t log_len, size_t place, size_t limit,
@@ -222,10 +221,7 @@ uint64_t mellansko_next(const uint8_t *log, size_t log_len, size_t place, size_t
 MELLANSKO_KEEP MELLANSKO_NOT_NULL MELLANSKO_PURE
 uint32_t mellansko_crc32c(const uint8_t *bytes, size_t bytes_len);
 
-/*
- * The form in which a header stores a CRC32C, that of the fragment's type byte and then its data:
- * rotated right by 15 bits, plus 0xA282EAD8, modulo 2^32.
- */
+/* The masked form (2.5) of a CRC32C, in which a header stores that of its type and data (2.4). */
 MELLANSKO_KEEP MELLANSKO_PURE
 uint32_t mellansko_mask(uint32_t crc);
 
