@@ -91,16 +91,21 @@ fn checksums() {
     says(&text, &format!("Of no bytes it is {}", crc32c(b"")));
     says(
         &text,
-        &format!("Of 0 it is 0x{:08X}, of 1 0x{:08X}.", mask(0), mask(1)),
+        &format!(
+            "form of 0 is 0x{:08X}; that of 1 is 0x{:08X}.",
+            mask(0),
+            mask(1)
+        ),
     );
 }
 
+const RECORDS: [&[u8]; 2] = [b"LW10-1 0.9137", b"LW11 0.8412"];
+
 #[test]
-fn two_records() {
-    let records: [&[u8]; 2] = [b"LW10-1 0.9137", b"LW11 0.8412"];
-    let (mut log, added) = written(&records);
+fn two_records_written() {
+    let (log, added) = written(&RECORDS);
     let text = part("§9.1", "**§9.2**");
-    let sum = crc32c(&[&[1], records[0]].concat());
+    let sum = crc32c(&[&[1], RECORDS[0]].concat());
     says(
         &text,
         &format!("is 0x{sum:08X}, and masked 0x{:08X}.", mask(sum)),
@@ -113,27 +118,49 @@ fn two_records() {
         place += size;
     }
     says(&text, &format!("the log is these {place} bytes"));
+}
+
+#[test]
+fn two_records_read() {
+    let (mut log, _) = written(&RECORDS);
+    let text = part("§9.1", "**§9.2**");
     let answers = told(&log, 100);
-    let lengths = records.map(|record| format!("{} bytes", record.len()));
-    let first = answers[0].replace(", whole", &format!(", {}, whole", lengths[0]));
-    let second = answers[1].replace(", whole", &format!(", {}, whole", lengths[1]));
-    says(
-        &text,
-        &format!(
-            "limit 100 it answers: {first}; {second}; {}. Cut",
-            answers[2]
-        ),
-    );
+    // Here the page says the lengths as well.
+    let long = |i: usize| {
+        let length = RECORDS[i].len();
+        answers[i].replace(", whole", &format!(", {length} bytes, whole"))
+    };
+    let all = format!("{}; {}; {}", long(0), long(1), answers[2]);
+    says(&text, &format!("limit 100 it answers: {all}. As the"));
     let cut = told(&log[..37], 100);
     assert_eq!((&cut[0], cut.len()), (&answers[0], 2));
+    let torn = &cut[1];
     says(
         &text,
-        &format!("Cut to 37 bytes: the first record; {}.", cut[1]),
+        &format!("Cut to 37 bytes: the first record; {torn}."),
     );
+    let low = told(&log, 12).join("; ");
+    says(&text, &format!("With limit 12: {low}."));
     log[10] ^= 1;
+    let changed = told(&log, 100).join("; ");
+    says(&text, &format!("at place 10 changed: {changed}."));
+}
+
+#[test]
+fn ten_words() {
+    let (log, _) = written(&RECORDS);
+    let Next::Record {
+        start,
+        end,
+        length,
+        stored: Stored::Whole(data),
+    } = next(&log, 0, 100, &mut [0; 100])
+    else {
+        panic!("the first record is whole");
+    };
     says(
-        &text,
-        &format!("at place 10 changed: {}.", told(&log, 100).join("; ")),
+        &part("§9.1", "**§9.2**"),
+        &format!("the first answer is 0, {start}, {end}, {length}, 0, {data}, {end}, 0, 0, 0."),
     );
 }
 
@@ -243,7 +270,7 @@ fn small_logs() {
     for row in rows {
         let log = match row[0].as_str() {
             "no bytes" => Vec::new(),
-            "six bytes, any" => vec![0x5a; 6],
+            "any six bytes" => vec![0x5a; 6],
             "seven zeros" => vec![0; 7],
             hex => hex
                 .split(' ')
