@@ -180,21 +180,15 @@ fn the_picture() {
     );
     let whole = told(&log, 262_144);
     says(&text, &format!("limit 262,144: {}.", whole.join("; ")));
-    let cut = told(&log[..106_310], 262_144);
-    assert_eq!(cut[..2], whole[..2]);
-    says(
-        &text,
-        &format!("Cut to 106,310 bytes: the first two records; {}.", cut[2]),
-    );
-    let cut = told(&log[..98_300], 262_144);
-    assert_eq!(cut[..2], whole[..2]);
-    says(
-        &text,
-        &format!(
-            "Cut to 98,300 bytes, which is in the trailer: the first two records; {}.",
-            cut[2]
-        ),
-    );
+    for (length, words) in [(106_310, ""), (98_300, ", which is in the trailer")] {
+        let cut = told(&log[..length], 262_144);
+        assert_eq!(cut[..2], whole[..2]);
+        let (length, end) = (grouped(length), &cut[2]);
+        says(
+            &text,
+            &format!("Cut to {length} bytes{words}: the first two records; {end}."),
+        );
+    }
     log[40_000] ^= 1;
     let changed = told(&log, 262_144);
     assert_eq!((&changed[0], &changed[4]), (&whole[0], &whole[2]));
