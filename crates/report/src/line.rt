@@ -43,7 +43,7 @@ pub fn asked(bytes: &[u8]) {
     sum(b"", bytes);
 }
 
-// The checksum of bytes, behind what they are.
+// The checksum of bytes, after what they are.
 pub fn sum(name: &[u8], bytes: &[u8]) {
     text(name);
     text(b" crc32c ");

@@ -1,5 +1,5 @@
 // Writes the checksum and the masked checksum of RFC 3720's vectors (appendix B.4), of
-// "123456789", and of that text behind each of the four type bytes.
+// "123456789", and of that text after each of the four type bytes.
 use crc32c::Crc32c;
 use crc32c::Mask;
 use libc::STDOUT_FILENO;

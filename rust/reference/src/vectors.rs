@@ -60,7 +60,7 @@ fn read_command() -> Vec<u8> {
     words.iter().flat_map(|word| word.to_be_bytes()).collect()
 }
 
-/// What the program `run_crc32c` writes: a line for each vector, and for "123456789" behind each
+/// What the program `run_crc32c` writes: a line for each vector, and for "123456789" after each
 /// type byte of the log format.
 pub fn listing() -> String {
     let mut lines = String::new();

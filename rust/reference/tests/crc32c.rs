@@ -18,9 +18,9 @@ fn is_the_same_by_bytes() {
     assert_eq!(crc32c_by_bytes(&[]), crc32c(&[]));
 }
 
-/// The mask's values in document 01, rows M 9 and 10.
+/// The mask's values in the format, rows M 9 and 10.
 #[test]
-fn masks_as_the_document_says() {
+fn masks_as_the_format_says() {
     assert_eq!(mask(0), 0xA282_EAD8);
     assert_eq!(mask(1), 0xA284_EAD8);
 }

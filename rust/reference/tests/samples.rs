@@ -108,7 +108,7 @@ fn damaged_has_this_seasons_factors_in_doubt() {
 
 /// One record for each put, with the bytes of a batch as LevelDB lays it out: the put's number in 8
 /// bytes, how many puts the batch has in 4, both lowest first, then a 1 for a put, the key and the
-/// value, each behind its length.
+/// value, each after its length.
 #[test]
 fn leveldb_has_each_put() {
     let puts = samples::puts();

@@ -1,4 +1,4 @@
-//! The example of the log format's text, whole, cut and changed: document 01, "Run and compared".
+//! The example of the log format's text, whole, cut and changed: the format's "Run and compared".
 
 use super::Run;
 

@@ -34,7 +34,7 @@ pub fn journal() -> Journal {
 
     let starters = second_starters(&first);
     let second = race(&mut journal, &SECOND, &starters, &mut generator);
-    // No header fits into what is left: the next record starts behind a trailer.
+    // No header fits into what is left: the next record starts after a trailer.
     journal.write_up_to(4, CLOCKS, || generator.below(4));
 
     evening(&mut journal, &first, &second);

@@ -1,4 +1,4 @@
--- The measure is what is left of the log behind the place, and one. Assumes nothing.
+-- The measure is what is left of the log after the place, and one. Assumes nothing.
 use mathlib.Core.Path.{_≡_}
 use Prim.Native.Nat.{_+_, _-_}
 use lib.ListN.{length}
