@@ -1,4 +1,4 @@
-//! The reference's log against document 01: the rows M of "Marked runs" (9 and 10, of the mask, are
+//! The reference's log against the format: the rows M of "Marked runs" (9 and 10, of the mask, are
 //! in tests/crc32c.rs), the lists of "Run and compared", and the table of two rows.
 
 use reference::log::{
@@ -118,7 +118,7 @@ fn the_longest_record_and_the_longest_log() {
     );
 }
 
-/// A fragment of 3 bytes, behind nothing and behind a FIRST of 2, with a limit that both keep.
+/// A fragment of 3 bytes, after nothing and after a FIRST of 2, with a limit that both keep.
 #[test]
 fn the_table_of_two_rows() {
     let torn = Next::End(Tail::Torn(0));
@@ -238,6 +238,8 @@ fn made_the_stored_outputs() {
     assert_eq!(example, reference::runs::example::listing());
     let edges = include_str!("../../../crates/run_edges/stdout");
     assert_eq!(edges, reference::runs::edges::listing());
+    let reasons = include_str!("../../../crates/run_reasons/stdout");
+    assert_eq!(reasons, reference::runs::reasons::listing());
     let trailers = include_str!("../../../crates/run_trailers/stdout");
     assert_eq!(trailers, reference::runs::trailers::listing());
 }

@@ -3,6 +3,7 @@
 
 pub mod edges;
 pub mod example;
+pub mod reasons;
 pub mod trailers;
 
 use crate::crc32c_by_bytes;

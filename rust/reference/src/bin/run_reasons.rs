@@ -1,0 +1,5 @@
+//! Makes crates/run_reasons/stdout.
+
+fn main() {
+    print!("{}", reference::runs::reasons::listing());
+}
