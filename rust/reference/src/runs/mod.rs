@@ -4,7 +4,7 @@
 pub mod edges;
 pub mod example;
 pub mod reasons;
-pub mod trailers;
+mod trailers;
 
 use crate::crc32c_by_bytes;
 use crate::log::{append, fragment, next, record_bytes, Appended, Next, Stored, Tail};

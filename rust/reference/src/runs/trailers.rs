@@ -4,8 +4,8 @@
 use super::Run;
 use crate::log::{FIRST, LAST, MIDDLE};
 
-/// What the program `run_trailers` writes.
-pub fn listing() -> String {
+/// A scenario for each length.
+pub(super) fn scenarios(run: &mut Run) {
     let titles = [
         "1 byte of trailer",
         "2 bytes of trailer",
@@ -14,16 +14,14 @@ pub fn listing() -> String {
         "5 bytes of trailer",
         "6 bytes of trailer",
     ];
-    let mut run = Run::new();
     for (bytes, title) in (1..).zip(titles) {
         run.scenario(title);
-        held_open(&mut run, bytes);
+        held_open(run, bytes);
         run.read(65_643, 262_144);
-        cuts(&mut run, bytes);
-        nothing_open(&mut run, bytes);
+        cuts(run, bytes);
+        nothing_open(run, bytes);
         run.sums(600_000);
     }
-    run.lines
 }
 
 /// A record from 0 to 65643. Its trailers hold what the log is filled with, which is no zeros.

@@ -9,20 +9,8 @@ use report::Length;
 use report::LogArray;
 use report::RecordArray;
 
-fn main() {
-    let mut log = [0u8; Length::LOG];
-    let mut record = [0u8; Length::RECORD];
-    let mut buffer = [0u8; Length::BUFFER];
-    trailers(b"1 byte of trailer", 1, &mut log, &mut record, &mut buffer);
-    trailers(b"2 bytes of trailer", 2, &mut log, &mut record, &mut buffer);
-    trailers(b"3 bytes of trailer", 3, &mut log, &mut record, &mut buffer);
-    trailers(b"4 bytes of trailer", 4, &mut log, &mut record, &mut buffer);
-    trailers(b"5 bytes of trailer", 5, &mut log, &mut record, &mut buffer);
-    trailers(b"6 bytes of trailer", 6, &mut log, &mut record, &mut buffer);
-}
-
 // Three blocks, of which the first two end in a trailer of so many bytes inside a record, and the third in one before an append.
-fn trailers(
+pub fn of_length(
     title: &[u8],
     bytes: usize,
     log: &mut LogArray,

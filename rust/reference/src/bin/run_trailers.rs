@@ -1,5 +1,0 @@
-//! Makes crates/run_trailers/stdout.
-
-fn main() {
-    print!("{}", reference::runs::trailers::listing());
-}
