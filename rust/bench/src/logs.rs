@@ -2,12 +2,10 @@
 //! LevelDB's own writer and reader.
 
 use crate::leveldb::Leveldb;
+use crate::sample::{Sample, LOG};
 use crate::turns::{best, rate, timed, Way};
 use reference::log::{Appended, Next, LONGEST_RECORD};
 use std::hint::black_box;
-
-/// How long the logs are.
-const LOG: usize = 15 << 20;
 
 const ROUNDS: usize = 11;
 
@@ -35,26 +33,7 @@ pub fn print(mut leveldb: Option<&mut Leveldb>) {
     }
 }
 
-/// Records of one length, as many as go into a log, and the log of them.
-struct Sample {
-    record: Vec<u8>,
-    count: usize,
-    log: Vec<u8>,
-}
-
 impl Sample {
-    fn new(length: usize) -> Sample {
-        let record: Vec<u8> = (0..length).map(|i| (i * 7 + i / 251) as u8).collect();
-        let mut log = vec![0; LOG];
-        let (mut count, mut used) = (0, 0);
-        while let Some(mark) = proved_append(&mut log, used, &record) {
-            count += 1;
-            used = mark;
-        }
-        log.truncate(used);
-        Sample { record, count, log }
-    }
-
     /// All must do the same work: the other ways write the same log.
     fn compare(&self, leveldb: Option<&mut Leveldb>) {
         let mut log = vec![0; self.log.len()];

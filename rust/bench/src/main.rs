@@ -1,11 +1,13 @@
 //! Rates of the proved calls, each beside other programs that are run in turn with it. Only the
-//! ratios mean something on another machine.
+//! ratios and the differences mean something on another machine.
 
 mod byte_table;
 mod checksums;
 mod leveldb;
 mod logs;
+mod sample;
 mod turns;
+mod types;
 
 use leveldb::Leveldb;
 
@@ -14,4 +16,5 @@ fn main() {
     checksums::print();
     let mut leveldb = std::env::args().nth(1).map(|path| Leveldb::start(&path));
     logs::print(leveldb.as_mut());
+    types::print();
 }

@@ -54,6 +54,7 @@ impl Record {
     /// assert_eq!(record.bytes(&log[..11], &buffer), b"");
     /// # Ok::<(), mellansko::Refusal>(())
     /// ```
+    #[inline]
     pub fn bytes<'a>(&self, log: &'a [u8], buffer: &'a [u8]) -> &'a [u8] {
         let (slice, place) = match self.stored {
             Stored::Whole(place) => (log, place),

@@ -1,7 +1,11 @@
 //! The proved calls, with answers of types.
 
+use crate::meaning::{number, record, refusal, skip, tail, unproved};
 use crate::numbers::{self, Numbers};
-use crate::{Condition, Next, Reason, Record, Refusal, Skip, Stored, Tail};
+use crate::{Next, Refusal};
+
+/// An answer before the call, which writes all of it.
+const UNWRITTEN: Numbers = [0; 10];
 
 /// Writes a record into a log of which the bytes up to the mark are used, and gives the new mark.
 /// The bytes outside the stretch between the two keep their values.
@@ -16,10 +20,11 @@ use crate::{Condition, Next, Reason, Record, Refusal, Skip, Stored, Tail};
 /// assert_eq!(mellansko::append(&mut log, 0, b"LW10-"), Ok(12));
 /// assert_eq!(&log[7..13], b"LW10-\xff");
 /// ```
+#[inline]
 pub fn append(log: &mut [u8], mark: usize, record: &[u8]) -> Result<usize, Refusal> {
-    let answer = numbers::append(log, mark, record);
-    match answer[0] {
-        0 => Ok(answer[1] as usize),
+    let mut answer = UNWRITTEN;
+    match numbers::append(log, mark, record, &mut answer) {
+        0 => Ok(number(&answer, 1)),
         1 => Err(refusal(&answer)),
         _ => unproved(&answer),
     }
@@ -39,39 +44,22 @@ pub fn append(log: &mut [u8], mark: usize, record: &[u8]) -> Result<usize, Refus
 /// let answer = mellansko::next(&[0; 6], 0, 100, &mut buffer);
 /// assert_eq!(answer, Ok((Next::End(Tail::Torn(0)), 0)));
 /// ```
+#[inline]
 pub fn next(
     log: &[u8],
     place: usize,
     limit: usize,
     buffer: &mut [u8],
 ) -> Result<(Next, usize), Refusal> {
-    let answer = numbers::next(log, place, limit, buffer);
-    let [kind, a, b, c, d, e, on, ..] = answer.map(|number| number as usize);
-    let next = match kind {
-        0 => Next::Record(Record {
-            start: a,
-            end: b,
-            length: c,
-            stored: match d {
-                0 => Stored::Whole(e),
-                1 => Stored::Gathered,
-                _ => unproved(&answer),
-            },
-        }),
-        1 => Next::Skip(Skip {
-            start: a,
-            end: b,
-            reason: numbered(Reason::ALL, Reason::number, &answer, 3),
-        }),
-        2 => Next::End(match a {
-            0 => Tail::Clean,
-            1 => Tail::Torn(b),
-            _ => unproved(&answer),
-        }),
+    let mut answer = UNWRITTEN;
+    let next = match numbers::next(log, place, limit, buffer, &mut answer) {
+        0 => Next::Record(record(&answer)),
+        1 => Next::Skip(skip(&answer)),
+        2 => Next::End(tail(&answer)),
         3 => return Err(refusal(&answer)),
         _ => unproved(&answer),
     };
-    Ok((next, on))
+    Ok((next, number(&answer, 6)))
 }
 
 /// The CRC32C of some bytes.
@@ -90,23 +78,4 @@ pub fn crc32c(bytes: &[u8]) -> u32 {
 /// ```
 pub fn mask(crc: u32) -> u32 {
     numbers::mask(crc)
-}
-
-fn refusal(answer: &Numbers) -> Refusal {
-    Refusal {
-        condition: numbered(Condition::ALL, Condition::number, answer, 1),
-        given: answer[2] as usize,
-    }
-}
-
-/// The one of a list whose number stands in the answer.
-fn numbered<T: Copy>(all: &[T], number: fn(T) -> u8, answer: &Numbers, at: usize) -> T {
-    let mut all = all.iter().copied();
-    all.find(|&one| u64::from(number(one)) == answer[at])
-        .unwrap_or_else(|| unproved(answer))
-}
-
-/// The proved calls give no such answer: what is linked is not them.
-fn unproved(answer: &Numbers) -> ! {
-    panic!("the archive gave an answer that there is not: {answer:?}")
 }

@@ -44,6 +44,7 @@ compile_error!("the proved calls are compiled for Linux on x86-64 alone");
 
 mod answer;
 mod calls;
+mod meaning;
 pub mod numbers;
 mod reading;
 mod refusal;

@@ -1,5 +1,12 @@
 //! The calls as C has them, whose answers are ten numbers. `include/mellansko.h` says which. The
-//! typed calls stand on these.
+//! typed calls stand on these, and the comparison with the reference is made on them.
+//!
+//! An answer is written where the caller wants it and read there, a number at a time. A copy of all
+//! ten would be made by loads wider than the call's stores, and each such load waits for several
+//! stores to finish: that took longer than all else that the types do.
+
+// The calls into the archive are the crate's only unsafe code.
+#![allow(unsafe_code)]
 
 extern "C" {
     fn mellansko_crc32c(bytes: *const u8, bytes_len: usize) -> u32;
@@ -11,7 +18,7 @@ extern "C" {
         record: *const u8,
         record_len: usize,
         answer: *mut u64,
-    );
+    ) -> u64;
     fn mellansko_next(
         log: *const u8,
         log_len: usize,
@@ -20,33 +27,32 @@ extern "C" {
         buffer: *mut u8,
         buffer_len: usize,
         answer: *mut u64,
-    );
+    ) -> u64;
 }
 
 /// An answer.
 pub type Numbers = [u64; 10];
 
-/// An answer before the call. The call writes all ten; a number that it left out would show.
-const UNWRITTEN: Numbers = [u64::MAX; 10];
-
+#[inline]
 pub(crate) fn crc32c(bytes: &[u8]) -> u32 {
-    // Safe: the call requires nothing, reads the slice alone and keeps nothing of it.
+    // SAFETY: the call requires nothing, reads the slice alone and keeps nothing of it.
     unsafe { mellansko_crc32c(bytes.as_ptr(), bytes.len()) }
 }
 
+#[inline]
 pub(crate) fn mask(crc: u32) -> u32 {
-    // Safe: the call requires nothing.
+    // SAFETY: the call requires nothing.
     unsafe { mellansko_mask(crc) }
 }
 
-/// Writes a record into a log of which the bytes up to the mark are used. The answer, in which the
-/// numbers that a case does not name are 0:
+/// Writes a record into a log of which the bytes up to the mark are used. Gives the answer's first
+/// number, and writes all ten, of which those that a case does not name are 0:
 ///
 /// - accepted: 0, new mark;
 /// - refused: 1, number, mark given.
-pub fn append(log: &mut [u8], mark: usize, record: &[u8]) -> Numbers {
-    let mut answer = UNWRITTEN;
-    // Safe: the call requires nothing, reads and writes the three slices alone and keeps nothing
+#[inline]
+pub fn append(log: &mut [u8], mark: usize, record: &[u8], answer: &mut Numbers) -> u64 {
+    // SAFETY: the call requires nothing, reads and writes the three slices alone and keeps nothing
     // of them.
     unsafe {
         mellansko_append(
@@ -56,22 +62,27 @@ pub fn append(log: &mut [u8], mark: usize, record: &[u8]) -> Numbers {
             record.as_ptr(),
             record.len(),
             answer.as_mut_ptr(),
-        );
+        )
     }
-    answer
 }
 
-/// Reads the next thing in a log from a place on. The answer, in which the numbers that a case does
-/// not name are 0:
+/// Reads the next thing in a log from a place on. Gives the answer's first number, and writes all
+/// ten, of which those that a case does not name are 0:
 ///
 /// - record: 0, start, end, length, 0 whole or 1 gathered, place of the first data byte if whole,
 ///   place to go on from;
 /// - skip: 1, start, end, reason, 0, 0, place to go on from;
 /// - end: 2, 0 clean or 1 torn, the tail's start if torn, 0, 0, 0, place to go on from;
 /// - refused: 3, number, place given.
-pub fn next(log: &[u8], place: usize, limit: usize, buffer: &mut [u8]) -> Numbers {
-    let mut answer = UNWRITTEN;
-    // Safe: as for `append`.
+#[inline]
+pub fn next(
+    log: &[u8],
+    place: usize,
+    limit: usize,
+    buffer: &mut [u8],
+    answer: &mut Numbers,
+) -> u64 {
+    // SAFETY: as for `append`.
     unsafe {
         mellansko_next(
             log.as_ptr(),
@@ -81,7 +92,6 @@ pub fn next(log: &[u8], place: usize, limit: usize, buffer: &mut [u8]) -> Number
             buffer.as_mut_ptr(),
             buffer.len(),
             answer.as_mut_ptr(),
-        );
+        )
     }
-    answer
 }

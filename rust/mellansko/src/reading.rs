@@ -67,6 +67,7 @@ impl<'log> Reading<'log> {
     }
 
     /// The place to go on from: every byte before it has been answered for.
+    #[inline]
     pub fn place(&self) -> usize {
         self.place
     }
@@ -91,6 +92,7 @@ impl<'log> Reading<'log> {
     /// assert_eq!(sum, 120_000);
     /// # Ok::<(), mellansko::Refusal>(())
     /// ```
+    #[inline]
     pub fn advance(&mut self) -> Option<Answer<'_>> {
         let next = self.step()?;
         Some(Answer::new(next, |record| {
@@ -98,6 +100,8 @@ impl<'log> Reading<'log> {
         }))
     }
 
+    // By itself the compiler keeps one copy for both ways, and that one's answer goes over memory.
+    #[inline(always)]
     fn step(&mut self) -> Option<Next> {
         if self.ended {
             return None;
@@ -113,6 +117,7 @@ impl<'log> Reading<'log> {
 impl<'log> Iterator for Reading<'log> {
     type Item = Answer<'log>;
 
+    #[inline]
     fn next(&mut self) -> Option<Answer<'log>> {
         let next = self.step()?;
         Some(Answer::new(next, |record| match record.stored {
@@ -136,6 +141,7 @@ impl fmt::Debug for Reading<'_> {
 }
 
 impl<'a> Answer<'a> {
+    #[inline]
     fn new(next: Next, bytes: impl FnOnce(&Record) -> Cow<'a, [u8]>) -> Answer<'a> {
         match next {
             Next::Record(record) => Answer::Record {

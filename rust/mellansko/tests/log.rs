@@ -3,16 +3,27 @@
 mod compare;
 mod random;
 
+use mellansko::numbers::{self, Numbers};
+
 struct Proved;
 
 impl compare::Calls for Proved {
-    fn append(&self, log: &mut [u8], mark: usize, record: &[u8]) -> [u64; 10] {
-        mellansko::numbers::append(log, mark, record)
+    fn append(&self, log: &mut [u8], mark: usize, record: &[u8]) -> Numbers {
+        answered(|answer| numbers::append(log, mark, record, answer))
     }
 
-    fn next(&self, log: &[u8], place: usize, limit: usize, buffer: &mut [u8]) -> [u64; 10] {
-        mellansko::numbers::next(log, place, limit, buffer)
+    fn next(&self, log: &[u8], place: usize, limit: usize, buffer: &mut [u8]) -> Numbers {
+        answered(|answer| numbers::next(log, place, limit, buffer, answer))
     }
+}
+
+/// The numbers of a call's answer. Before it they are such as no answer has, so that one which is
+/// left out shows. What the call returns is the first of them.
+fn answered(call: impl FnOnce(&mut Numbers) -> u64) -> Numbers {
+    let mut answer = [u64::MAX; 10];
+    let kind = call(&mut answer);
+    assert_eq!(kind, answer[0], "the kind that is returned, of {answer:?}");
+    answer
 }
 
 #[test]

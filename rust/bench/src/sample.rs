@@ -1,0 +1,24 @@
+//! Records of one length, as many as go into a log, and the log of them.
+
+/// How long the logs are.
+pub const LOG: usize = 15 << 20;
+
+pub struct Sample {
+    pub record: Vec<u8>,
+    pub count: usize,
+    pub log: Vec<u8>,
+}
+
+impl Sample {
+    pub fn new(length: usize) -> Sample {
+        let record: Vec<u8> = (0..length).map(|i| (i * 7 + i / 251) as u8).collect();
+        let mut log = vec![0; LOG];
+        let (mut count, mut used) = (0, 0);
+        while let Ok(mark) = mellansko::append(&mut log, used, &record) {
+            count += 1;
+            used = mark;
+        }
+        log.truncate(used);
+        Sample { record, count, log }
+    }
+}

@@ -1,0 +1,64 @@
+//! What the numbers of an answer mean, in types.
+//!
+//! Each is read by itself, where the call wrote it (see `numbers`). A record is what most answers
+//! are: that part goes into the caller's loop, the others are called.
+
+use crate::numbers::Numbers;
+use crate::{Condition, Reason, Record, Refusal, Skip, Stored, Tail};
+
+#[inline]
+pub fn record(answer: &Numbers) -> Record {
+    Record {
+        start: number(answer, 1),
+        end: number(answer, 2),
+        length: number(answer, 3),
+        stored: match answer[4] {
+            0 => Stored::Whole(number(answer, 5)),
+            1 => Stored::Gathered,
+            _ => unproved(answer),
+        },
+    }
+}
+
+pub fn skip(answer: &Numbers) -> Skip {
+    Skip {
+        start: number(answer, 1),
+        end: number(answer, 2),
+        reason: numbered(Reason::ALL, Reason::number, answer, 3),
+    }
+}
+
+pub fn tail(answer: &Numbers) -> Tail {
+    match answer[1] {
+        0 => Tail::Clean,
+        1 => Tail::Torn(number(answer, 2)),
+        _ => unproved(answer),
+    }
+}
+
+#[cold]
+pub fn refusal(answer: &Numbers) -> Refusal {
+    Refusal {
+        condition: numbered(Condition::ALL, Condition::number, answer, 1),
+        given: number(answer, 2),
+    }
+}
+
+/// A place, a length or a mark of an answer.
+#[inline]
+pub fn number(answer: &Numbers, at: usize) -> usize {
+    answer[at] as usize
+}
+
+/// The one of a list whose number stands in the answer.
+fn numbered<T: Copy>(all: &[T], number: fn(T) -> u8, answer: &Numbers, at: usize) -> T {
+    let mut all = all.iter().copied();
+    all.find(|&one| u64::from(number(one)) == answer[at])
+        .unwrap_or_else(|| unproved(answer))
+}
+
+/// The proved calls give no such answer: what is linked is not them.
+#[cold]
+pub fn unproved(answer: &Numbers) -> ! {
+    panic!("the archive gave an answer that there is not: {answer:?}")
+}
