@@ -1,10 +1,14 @@
-//! Links the archive of the proved calls. Where it is missing or older than its sources, the
-//! toolchain proves them and writes it first.
+//! Links the archive of the proved calls: the one that a variable names, or else that of the
+//! repository. Where the latter is missing or older than its sources, the toolchain proves them and
+//! writes it first.
 
 use std::path::{Path, PathBuf};
 use std::process::{exit, Command};
 use std::time::SystemTime;
 use std::{env, fs, io};
+
+/// The variable that names a ready archive.
+const READY: &str = "MELLANSKO_STATICLIB";
 
 fn main() {
     if let Err(message) = link() {
@@ -14,6 +18,39 @@ fn main() {
 }
 
 fn link() -> Result<(), String> {
+    println!("cargo:rerun-if-env-changed={READY}");
+    let archive = match env::var_os(READY) {
+        Some(path) => ready(path.into())?,
+        None => up_to_date()?,
+    };
+    // A copy of cargo's own, since `rt ci` removes what the toolchain wrote.
+    let folder = PathBuf::from(env::var_os("OUT_DIR").ok_or("cargo sets OUT_DIR")?);
+    let copy = folder.join("libmellansko.a");
+    found(fs::copy(&archive, &copy), &archive)?;
+    println!("cargo:rustc-link-search=native={}", folder.display());
+    println!("cargo:rustc-link-lib=static=mellansko");
+    // For the tests that link it to C.
+    println!("cargo:rustc-env=MELLANSKO_ARCHIVE={}", copy.display());
+    Ok(())
+}
+
+/// The archive that the variable names. Neither the toolchain nor a source is needed then.
+fn ready(archive: PathBuf) -> Result<PathBuf, String> {
+    let named = format!("mellansko: {READY} is \"{}\"", archive.display());
+    // Cargo runs this in the package's folder, which is seldom where the variable was set.
+    if archive.is_relative() {
+        return Err(format!("{named}, and has to be an absolute path"));
+    }
+    println!("cargo:rerun-if-changed={}", archive.display());
+    match fs::metadata(&archive) {
+        Ok(file) if file.is_file() => Ok(archive),
+        Ok(_) => Err(format!("{named}, which is no file")),
+        Err(error) => Err(format!("{named}, and that can't be read: {error}")),
+    }
+}
+
+/// The repository's archive, made anew if it has to be.
+fn up_to_date() -> Result<PathBuf, String> {
     let root = Path::new(env!("CARGO_MANIFEST_DIR")).join("../..");
     let root = found(root.canonicalize(), &root)?;
     let sources = ["crates", "crates.txt"].map(|source| root.join(source));
@@ -24,15 +61,7 @@ fn link() -> Result<(), String> {
     if !is_newer(&archive, &sources)? {
         make(&root)?;
     }
-    // A copy of cargo's own, since `rt ci` removes what the toolchain wrote.
-    let folder = PathBuf::from(env::var_os("OUT_DIR").ok_or("cargo sets OUT_DIR")?);
-    let copy = folder.join("libmellansko.a");
-    found(fs::copy(&archive, &copy), &archive)?;
-    println!("cargo:rustc-link-search=native={}", folder.display());
-    println!("cargo:rustc-link-lib=static=mellansko");
-    // For the tests that link it to C.
-    println!("cargo:rustc-env=MELLANSKO_ARCHIVE={}", copy.display());
-    Ok(())
+    Ok(archive)
 }
 
 /// Whether the archive is there and no source has changed since it was written.
@@ -69,7 +98,8 @@ fn make(root: &Path) -> Result<(), String> {
         .map_err(|error| {
             format!(
                 "mellansko: the proved library has to be built, and that takes the Rattle toolchain: its command `rt` did \
-                 not start ({error}). Install the toolchain, put `rt` on the PATH, and try again."
+                 not start ({error}). Install the toolchain, put `rt` on the PATH, and try again. Or, with a library that \
+                 is ready, set {READY} to its absolute path."
             )
         })?;
     if run.status.success() {

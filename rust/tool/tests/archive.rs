@@ -69,6 +69,7 @@ impl Build {
     fn run(&self) -> Ran {
         let mut command = Command::new(self.root.join("build"));
         command
+            .env_remove("MELLANSKO_STATICLIB")
             .env("OUT_DIR", self.root.join("out"))
             .env("PATH", &self.bin);
         ran(command.stdin(Stdio::null()))
