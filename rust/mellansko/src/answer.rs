@@ -1,21 +1,35 @@
 //! What the reader answers.
 
+use crate::Reason;
 use std::fmt;
 
 /// The next thing in a log.
-#[derive(Clone, Copy, Debug, PartialEq, Eq)]
+///
+/// Every answer is to be handled: a program that looks at the records alone goes on as if what is in
+/// doubt had never been written. So there is no fourth case to come, and no match needs a `_`.
+#[derive(Clone, Copy, Debug, PartialEq, Eq, Hash)]
+#[must_use = "it may say that a part of the log is in doubt"]
 pub enum Next {
     /// A record, all of whose fragments are sound.
     Record(Record),
     /// A range in doubt.
     Skip(Skip),
-    /// The log's end: there is nothing behind it.
+    /// The log's end: there is nothing after it.
     End(Tail),
 }
 
 /// A record, from its first header to its last fragment's end. It is stored as one or more
 /// fragments, each a header of 7 bytes and then data, of which none crosses a block's end.
-#[derive(Clone, Copy, Debug, PartialEq, Eq)]
+///
+/// There may be more fields in time, so it is made by a call alone:
+///
+/// ```compile_fail,E0639
+/// use mellansko::{Record, Stored};
+///
+/// let record = Record { start: 0, end: 12, length: 5, stored: Stored::Whole(7) };
+/// ```
+#[derive(Clone, Copy, Debug, PartialEq, Eq, Hash)]
+#[non_exhaustive]
 pub struct Record {
     /// Where its first header stands.
     pub start: usize,
@@ -28,7 +42,7 @@ pub struct Record {
 }
 
 /// Where a record's bytes are.
-#[derive(Clone, Copy, Debug, PartialEq, Eq)]
+#[derive(Clone, Copy, Debug, PartialEq, Eq, Hash)]
 pub enum Stored {
     /// In the log, from this place on.
     Whole(usize),
@@ -47,7 +61,7 @@ impl Record {
     /// let mut log = [0; 12];
     /// mellansko::append(&mut log, 0, b"LW10-")?;
     /// let mut buffer = [0; 100];
-    /// let (Next::Record(record), _) = mellansko::next(&log, 0, 100, &mut buffer)? else {
+    /// let (Next::Record(record), 12) = mellansko::next(&log, 0, 100, &mut buffer)? else {
     ///     panic!("the record was lost");
     /// };
     /// assert_eq!(record.bytes(&log, &buffer), b"LW10-");
@@ -55,6 +69,7 @@ impl Record {
     /// # Ok::<(), mellansko::Refusal>(())
     /// ```
     #[inline]
+    #[must_use]
     pub fn bytes<'a>(&self, log: &'a [u8], buffer: &'a [u8]) -> &'a [u8] {
         let (slice, place) = match self.stored {
             Stored::Whole(place) => (log, place),
@@ -69,11 +84,14 @@ impl Record {
 
 /// A range that is skipped, since its bytes can't be trusted. A program that needs all that was
 /// written must not go on as if they had never been there.
-#[derive(Clone, Copy, Debug, PartialEq, Eq)]
+#[derive(Clone, Copy, Debug, PartialEq, Eq, Hash)]
+#[must_use = "a part of the log is in doubt"]
 pub struct Skip {
+    /// Where the range starts.
     pub start: usize,
-    /// Exclusive.
+    /// Where it ends, exclusive.
     pub end: usize,
+    /// Why it can't be trusted.
     pub reason: Reason,
 }
 
@@ -85,97 +103,24 @@ impl fmt::Display for Skip {
 }
 
 /// How a log ends.
-#[derive(Clone, Copy, Debug, PartialEq, Eq)]
+#[derive(Clone, Copy, Debug, PartialEq, Eq, Hash)]
+#[must_use = "the log's tail may be in doubt"]
 pub enum Tail {
     /// Nothing is begun and not finished. So ends a log that was cut between two records, too.
     Clean,
     /// The log ends inside of what starts at this place. That may be a record that was being written.
     /// But a damaged length in the last block looks the same, and then records that were written
     /// whole lie in the tail: it must not be treated as never written, and no record be appended
-    /// behind it or over it.
+    /// after it or over it.
     Torn(usize),
 }
 
+/// The end in plain words.
 impl fmt::Display for Tail {
     fn fmt(&self, f: &mut fmt::Formatter) -> fmt::Result {
         match self {
             Tail::Clean => write!(f, "clean"),
             Tail::Torn(start) => write!(f, "torn from {start} on"),
         }
-    }
-}
-
-/// Why a range is skipped. The first three range from a header to the end of the block or of the
-/// log, whichever is sooner, since the length may be the damaged part.
-#[derive(Clone, Copy, Debug, PartialEq, Eq, Hash)]
-#[non_exhaustive]
-pub enum Reason {
-    /// The header's length runs past the end of the block.
-    BadLength = 1,
-    /// The header's type and length are both 0.
-    Blank = 2,
-    /// The header's checksum is not that of its type and data.
-    Checksum = 3,
-    /// A record that is begun and not finished, up to what stands where its next fragment should.
-    /// The next answer is for that.
-    Interrupted = 4,
-    /// One fragment, which goes on with a record that is not begun.
-    Orphan = 5,
-    /// One fragment, of a type that the format does not have.
-    UnknownType = 6,
-    /// A record, up to the end of the fragment that takes it above the limit. Sound fragments of it
-    /// behind that one are orphans.
-    OverLimit = 7,
-}
-
-impl Reason {
-    /// All reasons, in the order of their numbers.
-    pub const ALL: &'static [Reason] = &[
-        Reason::BadLength,
-        Reason::Blank,
-        Reason::Checksum,
-        Reason::Interrupted,
-        Reason::Orphan,
-        Reason::UnknownType,
-        Reason::OverLimit,
-    ];
-
-    /// The reason's number, from 1 on.
-    pub fn number(self) -> u8 {
-        self as u8
-    }
-
-    /// The reason's short name.
-    pub fn name(self) -> &'static str {
-        match self {
-            Reason::BadLength => "bad length",
-            Reason::Blank => "blank",
-            Reason::Checksum => "checksum",
-            Reason::Interrupted => "interrupted",
-            Reason::Orphan => "orphan",
-            Reason::UnknownType => "unknown type",
-            Reason::OverLimit => "over the limit",
-        }
-    }
-}
-
-/// The reason in plain words.
-///
-/// ```
-/// use mellansko::Reason;
-///
-/// assert_eq!(Reason::Orphan.to_string(), "a piece of a record whose beginning is missing");
-/// ```
-impl fmt::Display for Reason {
-    fn fmt(&self, f: &mut fmt::Formatter) -> fmt::Result {
-        f.write_str(match self {
-            Reason::BadLength => "a stored length runs past the end of its block",
-            Reason::Blank => "a header with neither type nor length, as in a stretch of zeros",
-            Reason::Checksum => "the stored checksum is not that of the bytes",
-            Reason::Interrupted => "a record that breaks off before its last piece",
-            Reason::Orphan => "a piece of a record whose beginning is missing",
-            Reason::UnknownType => "a piece of a kind that this format does not have",
-            Reason::OverLimit => "a record longer than the limit",
-        })
     }
 }

@@ -10,9 +10,11 @@ const UNWRITTEN: Numbers = [0; 10];
 /// Writes a record into a log of which the bytes up to the mark are used, and gives the new mark.
 /// The bytes outside the stretch between the two keep their values.
 ///
-/// A log that was read, from a file say, is gone on with at its length, if all of it reads with no
-/// skip and a clean end. If not, begin another log: a record behind what is in doubt may be skipped
-/// with it.
+/// The first record is appended at mark 0, each later one at the mark that the last one gave. To a
+/// log that was read, from a file say, a record is appended at its length, if all of it reads with
+/// no skip and a clean end, as [`records`](crate::records) shows. If not, begin another log: a record
+/// after what is in doubt may be skipped with it, and one over it destroys what may be left there.
+/// What the log holds makes no difference to the call: one at a lower mark writes over records.
 ///
 /// ```
 /// let mut log = [0xff; 64];
@@ -20,6 +22,11 @@ const UNWRITTEN: Numbers = [0; 10];
 /// assert_eq!(mellansko::append(&mut log, 0, b"LW10-"), Ok(12));
 /// assert_eq!(&log[7..13], b"LW10-\xff");
 /// ```
+///
+/// # Errors
+///
+/// The first of these [conditions](crate::Condition) that holds: `LogTooLong`, `Outside`,
+/// `RecordTooLong`, `NoRoom`.
 #[inline]
 pub fn append(log: &mut [u8], mark: usize, record: &[u8]) -> Result<usize, Refusal> {
     let mut answer = UNWRITTEN;
@@ -32,9 +39,10 @@ pub fn append(log: &mut [u8], mark: usize, record: &[u8]) -> Result<usize, Refus
 
 /// Reads the next thing in a log from a place on, and gives it with the place to go on from. A record
 /// of more bytes than the limit is skipped; the buffer has at least as many. Only a gathered record
-/// writes the buffer, and [`Record::bytes`] then finds it there.
+/// writes the buffer, and [`Record::bytes`](crate::Record::bytes) then finds it there.
 ///
-/// [`Reading`](crate::Reading) makes these calls one after the other.
+/// The first place is 0, each later one that which the last answer gave: at another, a header is read
+/// where there may be none. [`Reading`](crate::Reading) makes these calls one after the other.
 ///
 /// ```
 /// use mellansko::{Next, Tail};
@@ -44,6 +52,11 @@ pub fn append(log: &mut [u8], mark: usize, record: &[u8]) -> Result<usize, Refus
 /// let answer = mellansko::next(&[0; 6], 0, 100, &mut buffer);
 /// assert_eq!(answer, Ok((Next::End(Tail::Torn(0)), 0)));
 /// ```
+///
+/// # Errors
+///
+/// The first of these [conditions](crate::Condition) that holds: `LogTooLong`, `Outside`,
+/// `LimitTooHigh`, `BufferTooShort`.
 #[inline]
 pub fn next(
     log: &[u8],
@@ -67,6 +80,8 @@ pub fn next(
 /// ```
 /// assert_eq!(mellansko::crc32c(b"123456789"), 0xe306_9283);
 /// ```
+#[inline]
+#[must_use]
 pub fn crc32c(bytes: &[u8]) -> u32 {
     numbers::crc32c(bytes)
 }
@@ -76,6 +91,8 @@ pub fn crc32c(bytes: &[u8]) -> u32 {
 /// ```
 /// assert_eq!(mellansko::mask(0), 0xa282_ead8);
 /// ```
+#[inline]
+#[must_use]
 pub fn mask(crc: u32) -> u32 {
     numbers::mask(crc)
 }

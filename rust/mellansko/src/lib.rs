@@ -45,13 +45,17 @@ compile_error!("the proved calls are compiled for Linux on x86-64 alone");
 mod answer;
 mod calls;
 mod meaning;
+// For comparisons and benchmarks.
+#[doc(hidden)]
 pub mod numbers;
 mod reading;
+mod reason;
 mod refusal;
 
-pub use answer::{Next, Reason, Record, Skip, Stored, Tail};
+pub use answer::{Next, Record, Skip, Stored, Tail};
 pub use calls::{append, crc32c, mask, next};
 pub use reading::{Answer, Reading};
+pub use reason::Reason;
 pub use refusal::{Condition, Refusal};
 
 /// The bytes of a block. What is damaged in one block hides no record that lies in others.

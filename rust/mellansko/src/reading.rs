@@ -5,11 +5,32 @@ use std::borrow::Cow;
 use std::fmt;
 use std::iter::FusedIterator;
 
-/// The answers of a log from place 0 on, in order; the last is its end. Their ranges lie one behind
+/// The answers of a log from place 0 on, in order; the last is its end. Their ranges lie one after
 /// the other, with at most a trailer of up to six bytes between two.
 ///
 /// As an iterator it hands out records with bytes of their own where they had to be gathered;
-/// [`advance`](Reading::advance) lends them instead.
+/// [`advance`](Reading::advance) lends them instead. A program that can only use a log in which
+/// nothing is in doubt takes [`records`](crate::records).
+///
+/// ```
+/// use mellansko::{Answer, Reading, Tail};
+///
+/// // A record, and then a log that ends inside a header.
+/// let mut log = [0; 15];
+/// mellansko::append(&mut log, 0, b"LW10-")?;
+/// let (mut records, mut skips, mut torn) = (0, 0, None);
+/// for answer in Reading::of(&log)? {
+///     match answer {
+///         Answer::Record { .. } => records += 1,
+///         Answer::Skip(_) => skips += 1,
+///         Answer::End(Tail::Clean) => {}
+///         Answer::End(Tail::Torn(start)) => torn = Some(start),
+///     }
+/// }
+/// assert_eq!((records, skips, torn), (1, 0, Some(12)));
+/// # Ok::<(), mellansko::Refusal>(())
+/// ```
+#[must_use = "nothing is read before an answer is asked for"]
 pub struct Reading<'log> {
     log: &'log [u8],
     limit: usize,
@@ -19,7 +40,22 @@ pub struct Reading<'log> {
 }
 
 /// What a [`Reading`] gives.
-#[derive(Clone, Debug, PartialEq, Eq)]
+///
+/// As with [`Next`], every answer is to be handled. A match that leaves one out does not compile:
+///
+/// ```compile_fail,E0004
+/// use mellansko::{Answer, Reading};
+///
+/// for answer in Reading::of(&[])? {
+///     match answer {
+///         Answer::Record { bytes, .. } => println!("{bytes:?}"),
+///         Answer::End(tail) => println!("{tail}"),
+///     }
+/// }
+/// # Ok::<(), mellansko::Refusal>(())
+/// ```
+#[derive(Clone, Debug, PartialEq, Eq, Hash)]
+#[must_use = "it may say that a part of the log is in doubt"]
 pub enum Answer<'a> {
     /// A record, all of whose fragments are sound.
     Record {
@@ -35,7 +71,11 @@ pub enum Answer<'a> {
 }
 
 impl<'log> Reading<'log> {
-    /// Reads a log with the highest limit there is on a record's length.
+    /// Reads a log with the highest limit there is on a record's length, [`LONGEST_RECORD`].
+    ///
+    /// # Errors
+    ///
+    /// The [condition](crate::Condition) `LogTooLong`.
     pub fn of(log: &'log [u8]) -> Result<Reading<'log>, Refusal> {
         Reading::with_limit(log, LONGEST_RECORD)
     }
@@ -48,15 +88,19 @@ impl<'log> Reading<'log> {
     /// let refusal = Reading::with_limit(&[], 262_145).unwrap_err();
     /// assert_eq!(refusal.condition, Condition::LimitTooHigh);
     /// ```
+    ///
+    /// # Errors
+    ///
+    /// The first of these [conditions](crate::Condition) that holds: `LogTooLong`, `LimitTooHigh`.
     pub fn with_limit(log: &'log [u8], limit: usize) -> Result<Reading<'log>, Refusal> {
         // A limit above the highest is refused whatever the buffer has.
         let mut buffer = vec![0; limit.min(LONGEST_RECORD)];
         // What is refused at the log's end, with nothing to read, is refused at every place; what is
         // not, at none.
-        next(log, log.len(), limit, &mut buffer).map_err(|refusal| Refusal {
-            given: 0,
-            ..refusal
-        })?;
+        if let Err(refusal) = next(log, log.len(), limit, &mut buffer) {
+            let given = 0;
+            return Err(Refusal { given, ..refusal });
+        }
         Ok(Reading {
             log,
             limit,
@@ -68,6 +112,7 @@ impl<'log> Reading<'log> {
 
     /// The place to go on from: every byte before it has been answered for.
     #[inline]
+    #[must_use]
     pub fn place(&self) -> usize {
         self.place
     }
@@ -76,7 +121,7 @@ impl<'log> Reading<'log> {
     /// into the one buffer. After the end there is none.
     ///
     /// ```
-    /// use mellansko::{Answer, Reading};
+    /// use mellansko::{Answer, Reading, Tail};
     ///
     /// // Two records of 40,000 bytes, each of which runs across a block's end.
     /// let mut log = vec![0; 81_000];
@@ -85,13 +130,25 @@ impl<'log> Reading<'log> {
     /// let mut reading = Reading::of(&log[..mark])?;
     /// let mut sum = 0;
     /// while let Some(answer) = reading.advance() {
-    ///     if let Answer::Record { bytes, .. } = answer {
-    ///         sum += bytes.iter().map(|&byte| u32::from(byte)).sum::<u32>();
+    ///     match answer {
+    ///         Answer::Record { bytes, .. } => sum += bytes.iter().map(|&byte| u32::from(byte)).sum::<u32>(),
+    ///         Answer::Skip(skip) => panic!("the sum would be of a part: {skip}"),
+    ///         Answer::End(Tail::Clean) => {}
+    ///         Answer::End(tail) => panic!("the sum would be of a part: {tail}"),
     ///     }
     /// }
     /// assert_eq!(sum, 120_000);
     /// # Ok::<(), mellansko::Refusal>(())
     /// ```
+    ///
+    /// An answer is not to be dropped:
+    ///
+    /// ```compile_fail
+    /// #![deny(unused_must_use)]
+    /// mellansko::Reading::of(&[])?.advance();
+    /// # Ok::<(), mellansko::Refusal>(())
+    /// ```
+    #[must_use = "it may say that a part of the log is in doubt"]
     #[inline]
     pub fn advance(&mut self) -> Option<Answer<'_>> {
         let next = self.step()?;
@@ -100,7 +157,7 @@ impl<'log> Reading<'log> {
         }))
     }
 
-    // By itself the compiler keeps one copy for both ways, and that one's answer goes over memory.
+    // Otherwise one copy of it is kept for both ways, whose answer is moved by way of memory.
     #[inline(always)]
     fn step(&mut self) -> Option<Next> {
         if self.ended {

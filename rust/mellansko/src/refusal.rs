@@ -5,16 +5,18 @@ use std::error::Error;
 use std::fmt;
 
 /// Why a call did nothing. No lent byte has changed.
-#[derive(Clone, Copy, Debug, PartialEq, Eq)]
+#[derive(Clone, Copy, Debug, PartialEq, Eq, Hash)]
+#[must_use = "the call did nothing"]
 pub struct Refusal {
+    /// The condition that it is refused on.
     pub condition: Condition,
     /// The mark or place that the call was given.
     pub given: usize,
 }
 
 /// The conditions on which a call is refused. Where several hold, the one with the lowest number is
-/// given.
-#[derive(Clone, Copy, Debug, PartialEq, Eq, Hash)]
+/// given: they are ordered by their numbers. More may come.
+#[derive(Clone, Copy, Debug, PartialEq, Eq, PartialOrd, Ord, Hash)]
 #[non_exhaustive]
 pub enum Condition {
     /// Writing or reading: the log has more than [`LONGEST_LOG`] bytes.
@@ -44,6 +46,7 @@ impl Condition {
     ];
 
     /// The condition's number, from 1 on.
+    #[must_use]
     pub fn number(self) -> u8 {
         self as u8
     }

@@ -126,7 +126,7 @@ fn lists() -> Vec<List> {
 }
 
 /// Lengths of records: none; each length near an edge alone, and all of them in one log; and a first
-/// record that leaves 0 to 8 bytes of its block, with others behind it.
+/// record that leaves 0 to 8 bytes of its block, with others after it.
 fn edges() -> Vec<Vec<usize>> {
     let room = BLOCK - HEADER;
     let mut single = vec![0, 1, 2, 1_000, LONGEST_RECORD - 1, LONGEST_RECORD];

@@ -4,8 +4,8 @@
 mod expected;
 mod random;
 
-use expected::{appended, typed};
-use mellansko::{Answer, Condition, Next, Reading, Record, Refusal, Stored};
+use expected::{appended, next_of, read as answered, refused};
+use mellansko::{Answer, Condition, Next, Reading, Refusal, Stored};
 use random::Random;
 use reference::log::{self, fragment, BLOCK, LONGEST_LOG, LONGEST_RECORD};
 use std::collections::BTreeSet;
@@ -69,10 +69,11 @@ fn written(random: &mut Random, lengths: &[usize]) -> Vec<u8> {
     let mut mark = 0;
     for &length in lengths {
         let record = random.bytes(length);
-        let expected = appended(log::append(&mut theirs, mark, &record));
-        assert_eq!(mellansko::append(&mut ours, mark, &record), expected);
+        let expected = log::append(&mut theirs, mark, &record);
+        let got = mellansko::append(&mut ours, mark, &record);
+        assert_eq!(appended(got), expected);
         assert!(ours == theirs, "{length} bytes at {mark}");
-        mark = expected.expect("room enough");
+        mark = got.expect("room enough");
     }
     ours.truncate(mark);
     ours
@@ -93,24 +94,23 @@ fn read(log: &[u8], limit: usize, reasons: &mut BTreeSet<u8>) {
     let mut place = 0;
     loop {
         let call = format!("at {place} of {} with limit {limit}", log.len());
-        let answer = log::next(log, place, limit, &mut theirs);
-        let expected = typed(answer, log);
+        let expected = log::next(log, place, limit, &mut theirs);
         let got = mellansko::next(log, place, limit, &mut ours);
-        assert_eq!(got, expected, "{call}");
+        place = expected.place_after(log);
+        assert_eq!(answered(got), (expected, place), "{call}");
         assert!(ours == theirs, "buffer, {call}");
-        let (next, on) = expected.expect("no refusal");
-        let bytes = log::record_bytes(log, &theirs, &answer);
-        if let Next::Record(record) = next {
+        let bytes = log::record_bytes(log, &theirs, &expected);
+        if let Ok((Next::Record(record), _)) = got {
             assert!(record.bytes(log, &ours) == bytes, "bytes, {call}");
         }
-        gives(iterator.next(), next, bytes, &call);
-        gives(lending.advance(), next, bytes, &call);
-        place = on;
+        gives(iterator.next(), expected, bytes, &call);
+        gives(lending.advance(), expected, bytes, &call);
         assert_eq!([iterator.place(), lending.place()], [place; 2], "{call}");
-        match next {
-            Next::Record(_) => {}
-            Next::Skip(skip) => _ = reasons.insert(skip.reason.number()),
-            Next::End(_) => break,
+        match expected {
+            log::Next::Record { .. } => {}
+            log::Next::Skip { reason, .. } => _ = reasons.insert(reason),
+            log::Next::End(_) => break,
+            log::Next::Refused { .. } => panic!("a refusal, {call}"),
         }
     }
     for _ in 0..2 {
@@ -120,25 +120,20 @@ fn read(log: &[u8], limit: usize, reasons: &mut BTreeSet<u8>) {
 }
 
 /// An answer of a reading, where a whole record's bytes are no copy of the log's.
-fn gives(answer: Option<Answer>, next: Next, bytes: &[u8], call: &str) {
-    let mut no_copy = true;
-    if let Some(Answer::Record {
-        record,
-        bytes: ours,
-    }) = &answer
-    {
-        no_copy = record.stored == Stored::Gathered || ptr::eq(&**ours, bytes);
-    }
-    let bytes = bytes.into();
-    let expected = match next {
-        Next::Record(record) => Answer::Record { record, bytes },
-        Next::Skip(skip) => Answer::Skip(skip),
-        Next::End(tail) => Answer::End(tail),
+fn gives(answer: Option<Answer>, expected: log::Next, bytes: &[u8], call: &str) {
+    let next = match answer.expect("an answer up to the end") {
+        Answer::Record {
+            record,
+            bytes: ours,
+        } => {
+            let no_copy = record.stored == Stored::Gathered || ptr::eq(&*ours, bytes);
+            assert!(no_copy && *ours == *bytes, "bytes of a reading, {call}");
+            Next::Record(record)
+        }
+        Answer::Skip(skip) => Next::Skip(skip),
+        Answer::End(tail) => Next::End(tail),
     };
-    assert!(
-        no_copy && answer == Some(expected),
-        "reading, {call}: not {next:?}"
-    );
+    assert_eq!(next_of(next), expected, "reading, {call}");
 }
 
 #[test]
@@ -166,8 +161,9 @@ fn refused_appends(log: &mut [u8], mark: usize, refusals: &mut Vec<Refusal>) {
     let record = [7; LONGEST_RECORD + 1];
     for length in [0, LONGEST_RECORD, LONGEST_RECORD + 1] {
         let got = mellansko::append(log, mark, &record[..length]);
-        let expected = appended(log::append(log, mark, &record[..length]));
-        assert_eq!(got, expected, "{length} bytes at {mark} of {}", log.len());
+        let expected = log::append(log, mark, &record[..length]);
+        let call = format!("{length} bytes at {mark} of {}", log.len());
+        assert_eq!(appended(got), expected, "{call}");
         refusals.extend(got.err());
     }
 }
@@ -175,15 +171,18 @@ fn refused_appends(log: &mut [u8], mark: usize, refusals: &mut Vec<Refusal>) {
 fn refused_readings(log: &[u8], place: usize, refusals: &mut Vec<Refusal>) {
     let mut buffer = [0; LONGEST_RECORD];
     for limit in [0, 1, LONGEST_RECORD, LONGEST_RECORD + 1, usize::MAX] {
+        let call = format!("limit {limit} at {place} of {}", log.len());
         for room in [0, 1, LONGEST_RECORD - 1, LONGEST_RECORD] {
             let got = mellansko::next(log, place, limit, &mut buffer[..room]);
-            let expected = typed(log::next(log, place, limit, &mut buffer[..room]), log);
-            assert_eq!(got, expected, "limit {limit} at {place} of {}", log.len());
+            let expected = log::next(log, place, limit, &mut buffer[..room]);
+            let on = expected.place_after(log);
+            assert_eq!(answered(got), (expected, on), "{call}");
             refusals.extend(got.err());
         }
-        let got = Reading::with_limit(log, limit).err();
-        let expected = typed(log::next(log, 0, limit, &mut buffer), log).err();
-        assert_eq!(got, expected, "limit {limit} for {}", log.len());
+        let got = Reading::with_limit(log, limit).err().map(refused);
+        let expected = log::next(log, 0, limit, &mut buffer);
+        let expected = matches!(expected, log::Next::Refused { .. }).then_some(expected);
+        assert_eq!(got, expected, "reading, {call}");
     }
 }
 
@@ -194,25 +193,16 @@ fn on_records_of_other_slices() {
     let bytes = [1; 20];
     let slices = [0, 10, 20].map(|end| bytes.split_at(end));
     let numbers = [0, 1, 9, 10, 11, 19, 20, 21, usize::MAX - 19, usize::MAX];
-    let whole = numbers.map(|place| (Stored::Whole(place), log::Stored::Whole(place)));
-    let gathered = [(Stored::Gathered, log::Stored::Gathered)];
-    let (start, end) = (0, 0);
-    for (ours, theirs) in whole.into_iter().chain(gathered) {
+    let whole = numbers.map(Stored::Whole);
+    // A record is made by a call alone; its numbers may be changed.
+    let Ok((Next::Record(mut record), _)) = mellansko::next(&fragment(1, &[]), 0, 0, &mut [])
+    else {
+        panic!("a record of no bytes");
+    };
+    for stored in whole.into_iter().chain([Stored::Gathered]) {
         for length in numbers {
-            let stored = ours;
-            let record = Record {
-                start,
-                end,
-                length,
-                stored,
-            };
-            let stored = theirs;
-            let answer = log::Next::Record {
-                start,
-                end,
-                length,
-                stored,
-            };
+            (record.stored, record.length) = (stored, length);
+            let answer = next_of(Next::Record(record));
             for (log, buffer) in slices {
                 let expected = log::record_bytes(log, buffer, &answer);
                 assert!(ptr::eq(record.bytes(log, buffer), expected), "{record:?}");

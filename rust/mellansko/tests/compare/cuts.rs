@@ -20,7 +20,7 @@ pub fn all(c: &mut Comparison) {
     }
 }
 
-/// A log of a few small records behind those of the lengths given, and its records' spans.
+/// A log of a few small records after those of the lengths given, and its records' spans.
 fn log(c: &mut Comparison, lengths: &[usize]) -> (Lent, Vec<Range<usize>>) {
     let bytes = c.random.bytes(3 * BLOCK);
     let mut log = Lent::new(&bytes, &mut c.random);

@@ -4,7 +4,7 @@ use crate::random::Random;
 use std::ops::Range;
 
 /// Each copy lies inside an array, at any place within a word, so that a byte written in front of
-/// the slice or behind it shows.
+/// the slice or after it shows.
 #[derive(Clone)]
 pub struct Lent {
     tested: Vec<u8>,
@@ -25,7 +25,7 @@ impl Lent {
         }
     }
 
-    /// Lends the first so many bytes only: those behind stay, and must not be seen.
+    /// Lends the first so many bytes only: those after them stay, and must not be seen.
     pub fn cut(&mut self, length: usize) {
         assert!(self.start + length + 16 <= self.tested.len());
         self.length = length;

@@ -36,7 +36,7 @@ pub fn record(random: &mut Random, length: usize) -> Vec<u8> {
     }
 }
 
-/// Small records one behind the other up to this length, the last cut off by it.
+/// Small records one after the other up to this length, the last cut off by it.
 fn small_log(random: &mut Random, length: usize) -> Vec<u8> {
     let mut log = vec![0; length + 200];
     let mut mark = 0;

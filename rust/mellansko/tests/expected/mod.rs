@@ -1,71 +1,87 @@
-//! The reference's answers, in the crate's types. What its numbers mean is said here once more, by
-//! document 01's tables and not by the crate's lists.
+//! The crate's answers, in the reference's types. What its reasons and conditions are numbered is
+//! said here once more, by document 01's tables and not by the crate's lists.
 
-use mellansko::{Condition, Next, Reason, Record, Refusal, Skip, Stored, Tail};
+// Each test program takes a part of it.
+#![allow(dead_code)]
+
+use mellansko::{Condition, Next, Reason, Refusal, Stored, Tail};
 use reference::log;
 
-pub fn appended(answer: log::Appended) -> Result<usize, Refusal> {
+pub fn appended(answer: Result<usize, Refusal>) -> log::Appended {
     match answer {
-        log::Appended::Mark(mark) => Ok(mark),
-        log::Appended::Refused { number, given } => Err(refusal(number, given)),
+        Ok(mark) => log::Appended::Mark(mark),
+        Err(Refusal { condition, given }) => {
+            let number = condition_number(condition);
+            log::Appended::Refused { number, given }
+        }
     }
 }
 
-pub fn typed(answer: log::Next, log: &[u8]) -> Result<(Next, usize), Refusal> {
-    let next = match answer {
-        log::Next::Record {
-            start,
-            end,
-            length,
-            stored,
-        } => {
-            let stored = match stored {
-                log::Stored::Whole(place) => Stored::Whole(place),
-                log::Stored::Gathered => Stored::Gathered,
-            };
-            Next::Record(Record {
-                start,
-                end,
-                length,
-                stored,
-            })
-        }
-        log::Next::Skip { start, end, reason } => {
-            let reason = reason_of(reason);
-            Next::Skip(Skip { start, end, reason })
-        }
-        log::Next::End(log::Tail::Clean) => Next::End(Tail::Clean),
-        log::Next::End(log::Tail::Torn(place)) => Next::End(Tail::Torn(place)),
-        log::Next::Refused { number, given } => return Err(refusal(number, given)),
-    };
-    Ok((next, answer.place_after(log)))
+/// The answer, and the place to go on from.
+pub fn read(answer: Result<(Next, usize), Refusal>) -> (log::Next, usize) {
+    match answer {
+        Ok((next, on)) => (next_of(next), on),
+        Err(refusal) => (refused(refusal), refusal.given),
+    }
 }
 
-fn reason_of(number: u8) -> Reason {
-    let reason = match number {
-        1 => Reason::BadLength,
-        2 => Reason::Blank,
-        3 => Reason::Checksum,
-        4 => Reason::Interrupted,
-        5 => Reason::Orphan,
-        6 => Reason::UnknownType,
-        7 => Reason::OverLimit,
-        _ => panic!("there is no reason {number}"),
+pub fn next_of(answer: Next) -> log::Next {
+    match answer {
+        Next::Record(record) => log::Next::Record {
+            start: record.start,
+            end: record.end,
+            length: record.length,
+            stored: match record.stored {
+                Stored::Whole(place) => log::Stored::Whole(place),
+                Stored::Gathered => log::Stored::Gathered,
+            },
+        },
+        Next::Skip(skip) => log::Next::Skip {
+            start: skip.start,
+            end: skip.end,
+            reason: reason_number(skip.reason),
+        },
+        Next::End(tail) => log::Next::End(tail_of(tail)),
+    }
+}
+
+pub fn tail_of(tail: Tail) -> log::Tail {
+    match tail {
+        Tail::Clean => log::Tail::Clean,
+        Tail::Torn(start) => log::Tail::Torn(start),
+    }
+}
+
+pub fn refused(Refusal { condition, given }: Refusal) -> log::Next {
+    let number = condition_number(condition);
+    log::Next::Refused { number, given }
+}
+
+fn reason_number(reason: Reason) -> u8 {
+    let number = match reason {
+        Reason::BadLength => 1,
+        Reason::Blank => 2,
+        Reason::Checksum => 3,
+        Reason::Interrupted => 4,
+        Reason::Orphan => 5,
+        Reason::UnknownType => 6,
+        Reason::OverLimit => 7,
+        _ => panic!("document 01 does not have {reason:?}"),
     };
     assert_eq!(reason.number(), number);
-    reason
+    number
 }
 
-fn refusal(number: u8, given: usize) -> Refusal {
-    let condition = match number {
-        1 => Condition::LogTooLong,
-        2 => Condition::Outside,
-        3 => Condition::RecordTooLong,
-        4 => Condition::NoRoom,
-        5 => Condition::LimitTooHigh,
-        6 => Condition::BufferTooShort,
-        _ => panic!("there is no refusal {number}"),
+fn condition_number(condition: Condition) -> u8 {
+    let number = match condition {
+        Condition::LogTooLong => 1,
+        Condition::Outside => 2,
+        Condition::RecordTooLong => 3,
+        Condition::NoRoom => 4,
+        Condition::LimitTooHigh => 5,
+        Condition::BufferTooShort => 6,
+        _ => panic!("document 01 does not have {condition:?}"),
     };
     assert_eq!(condition.number(), number);
-    Refusal { condition, given }
+    number
 }

@@ -1,0 +1,81 @@
+//! Why a range is skipped.
+
+use std::fmt;
+
+/// Why a range is skipped. The first three range from a header to the end of the block or of the
+/// log, whichever is sooner, since the length may be the damaged part. They are ordered by their
+/// numbers, and more may come.
+#[derive(Clone, Copy, Debug, PartialEq, Eq, PartialOrd, Ord, Hash)]
+#[non_exhaustive]
+pub enum Reason {
+    /// The header's length runs past the end of the block.
+    BadLength = 1,
+    /// The header's type and length are both 0.
+    Blank = 2,
+    /// The header's checksum is not that of its type and data.
+    Checksum = 3,
+    /// A record that is begun and not finished, up to what stands where its next fragment should.
+    /// The next answer is for that.
+    Interrupted = 4,
+    /// One fragment, which continues a record that is not begun.
+    Orphan = 5,
+    /// One fragment, of a type that the format does not have.
+    UnknownType = 6,
+    /// A record, up to the end of the fragment that takes it above the limit. Sound fragments of it
+    /// after that one are orphans.
+    OverLimit = 7,
+}
+
+impl Reason {
+    /// All reasons, in the order of their numbers.
+    pub const ALL: &'static [Reason] = &[
+        Reason::BadLength,
+        Reason::Blank,
+        Reason::Checksum,
+        Reason::Interrupted,
+        Reason::Orphan,
+        Reason::UnknownType,
+        Reason::OverLimit,
+    ];
+
+    /// The reason's number, from 1 on.
+    #[must_use]
+    pub fn number(self) -> u8 {
+        self as u8
+    }
+
+    /// The reason's short name.
+    #[must_use]
+    pub fn name(self) -> &'static str {
+        match self {
+            Reason::BadLength => "bad length",
+            Reason::Blank => "blank",
+            Reason::Checksum => "checksum",
+            Reason::Interrupted => "interrupted",
+            Reason::Orphan => "orphan",
+            Reason::UnknownType => "unknown type",
+            Reason::OverLimit => "over the limit",
+        }
+    }
+}
+
+/// The reason in plain words.
+///
+/// ```
+/// use mellansko::Reason;
+///
+/// assert_eq!(Reason::Orphan.to_string(), "a piece of a record whose beginning is missing");
+/// ```
+impl fmt::Display for Reason {
+    fn fmt(&self, f: &mut fmt::Formatter) -> fmt::Result {
+        f.write_str(match self {
+            Reason::BadLength => "a stored length runs past the end of its block",
+            Reason::Blank => "a header with neither type nor length, as in a stretch of zeros",
+            Reason::Checksum => "the stored checksum is not that of the bytes",
+            Reason::Interrupted => "a record that breaks off before its last piece",
+            Reason::Orphan => "a piece of a record whose beginning is missing",
+            Reason::UnknownType => "a piece of a kind that this format does not have",
+            Reason::OverLimit => "a record longer than the limit",
+        })
+    }
+}
