@@ -1,43 +1,89 @@
 //! The writer and the reader of journals in the LevelDB log format, proved in Rattle, for Rust.
 //!
-//! A journal is a run of bytes. [`append`] writes a record into one that is lent. [`Reading`] goes
-//! over one from its first byte to its end, and says which bytes are records, which are in doubt and
-//! why, and where a torn tail starts; what is left are up to six that fill up a block:
+//! A journal is a run of bytes, here called a log. [`append`] writes a record into one that is lent.
+//! [`records`] is the way to load one that has to be whole: all of its records, or an error that says
+//! what is in doubt.
 //!
 //! ```
-//! use mellansko::{Answer, Reading, Reason, Tail};
-//!
-//! let mut journal = vec![0; 64];
-//! let mut used = 0;
+//! let mut log = vec![0; 64];
+//! let mut mark = 0;
 //! for record in ["LW10-1 0.9137", "LW11 0.8412"] {
-//!     used = mellansko::append(&mut journal, used, record.as_bytes())?;
+//!     mark = mellansko::append(&mut log, mark, record.as_bytes())?;
 //! }
-//! journal.truncate(used);
+//! log.truncate(mark);
+//! assert_eq!(mellansko::records(&log)?, [&b"LW10-1 0.9137"[..], b"LW11 0.8412"]);
 //!
-//! let mut records = Vec::new();
-//! for answer in Reading::of(&journal)? {
+//! // With a byte changed, what can't be trusted is named.
+//! log[10] ^= 1;
+//! let error = mellansko::records(&log).unwrap_err();
+//! assert_eq!(
+//!     error.to_string(),
+//!     "the log is in doubt from 0 to 38: the stored checksum is not that of the bytes"
+//! );
+//! # Ok::<(), Box<dyn std::error::Error>>(())
+//! ```
+//!
+//! [`Reading`] is the way to see all that is in a log, damaged or not. It goes from the first byte to
+//! the end, and says which bytes are records, which are in doubt and why, and where a torn tail
+//! starts; what is left are trailers, up to six bytes that fill up a block:
+//!
+//! ```
+//! use mellansko::{Answer, Reading};
+//!
+//! # let mut log = [0; 20];
+//! # mellansko::append(&mut log, 0, b"LW10-1 0.9137")?;
+//! for answer in Reading::of(&log)? {
 //!     match answer {
-//!         Answer::Record { bytes, .. } => records.push(bytes),
-//!         Answer::Skip(skip) => panic!("in doubt: {skip}"),
-//!         Answer::End(tail) => assert_eq!(tail, Tail::Clean),
+//!         Answer::Record { record, bytes } => println!("{} to {}: {bytes:?}", record.start, record.end),
+//!         Answer::Skip(skip) => println!("in doubt: {skip}"),
+//!         Answer::End(tail) => println!("the end: {tail}"),
 //!     }
 //! }
-//! assert_eq!(records, [&b"LW10-1 0.9137"[..], b"LW11 0.8412"]);
-//!
-//! // With a byte changed, what can't be trusted is named, and nothing of it is handed out.
-//! journal[10] ^= 1;
-//! let Some(Answer::Skip(skip)) = Reading::of(&journal)?.next() else {
-//!     panic!("a changed byte went unnoticed");
-//! };
-//! assert_eq!((skip.start, skip.end, skip.reason), (0, 38, Reason::Checksum));
-//! assert_eq!(skip.to_string(), "0 to 38: the stored checksum is not that of the bytes");
 //! # Ok::<(), mellansko::Refusal>(())
 //! ```
 //!
-//! What the calls answer is proved for every input; `docs/PROOF.md` of the repository says where.
-//! This crate only puts the answers, ten numbers each, into types, and cuts a record's bytes out of
-//! the slice that its answer names. Nothing here can be made to do undefined things by safe code:
-//! the calls require nothing of their caller but slices that are such, which references are.
+//! # What is promised
+//!
+//! Of the calls that this crate links this is proved; `docs/PROOF.md` of the repository has the exact
+//! words, and what it rests on:
+//!
+//! - Whatever they are lent, each call ends and does nothing undefined. One that is refused changes
+//!   no lent byte.
+//! - Records that were appended one after the other, from mark 0 on, read back exactly and in order,
+//!   with nothing skipped and a clean end.
+//! - If such a log is cut anywhere, the records that end at the cut or before it come out as written,
+//!   and one that it falls into is a torn tail. If any one block is changed, the records with no byte
+//!   in it come out as written.
+//! - Of any log, every byte is in exactly one record's span, skipped range or torn tail, or in a
+//!   trailer outside of these.
+//!
+//! This crate itself is tested, not proved. It puts the answers, ten numbers each, into types, and
+//! cuts a record's bytes out of the slice that its answer names. Its only unsafe code are the calls,
+//! which require no more than what a reference to a slice is. If what is linked gives an answer that
+//! there is not, and so is not the proved calls, it panics.
+//!
+//! # What no reader of this format can tell
+//!
+//! Nothing in the bytes shows these, so all records are handed out and the end is clean:
+//!
+//! - The log was cut exactly between two records: those after the cut are missing.
+//! - Blocks were left out, are there twice, or were replaced by other sound ones, of an older journal
+//!   say. Where their pieces fit, a record may even be put together of those of two.
+//! - Bytes were made with a right checksum, or happen to have it: it is for accidents.
+//!
+//! A program that has to know keeps what shows it elsewhere, or in the records: their number, or a
+//! number in each.
+//!
+//! # The archive
+//!
+//! The build script links the archive of the proved calls. In the repository it has the toolchain's
+//! command `rt` make that if it is missing or older than its sources. Where there is a ready one, the
+//! variable `MELLANSKO_STATICLIB` names it by an absolute path; `rt` is not called then, and no
+//! source is looked at:
+//!
+//! ```sh
+//! MELLANSKO_STATICLIB=/usr/local/lib/libmellansko.a cargo build
+//! ```
 
 #[cfg(not(all(target_arch = "x86_64", target_os = "linux")))]
 compile_error!("the proved calls are compiled for Linux on x86-64 alone");
@@ -50,21 +96,23 @@ mod meaning;
 pub mod numbers;
 mod reading;
 mod reason;
+mod records;
 mod refusal;
 
 pub use answer::{Next, Record, Skip, Stored, Tail};
 pub use calls::{append, crc32c, mask, next};
 pub use reading::{Answer, Reading};
 pub use reason::Reason;
+pub use records::{records, records_with_limit, Doubt, NotWhole};
 pub use refusal::{Condition, Refusal};
 
-/// The bytes of a block. What is damaged in one block hides no record that lies in others.
+/// The bytes of a block. If one block is changed, records with no byte in it come out as written.
 pub const BLOCK: usize = 32_768;
 
 /// The most bytes that a record has.
 pub const LONGEST_RECORD: usize = 262_144;
 
-/// The most bytes that a lent journal has.
+/// The most bytes that a lent log has.
 pub const LONGEST_LOG: usize = 16_777_216;
 
 // The examples of the README are run as tests.

@@ -1,9 +1,12 @@
 //! The proved writer and reader against the independent ones.
 
 mod compare;
+mod expected;
 mod random;
+mod strict;
 
 use mellansko::numbers::{self, Numbers};
+use strict::Strict;
 
 struct Proved;
 
@@ -14,6 +17,10 @@ impl compare::Calls for Proved {
 
     fn next(&self, log: &[u8], place: usize, limit: usize, buffer: &mut [u8]) -> Numbers {
         answered(|answer| numbers::next(log, place, limit, buffer, answer))
+    }
+
+    fn records(&self, log: &[u8], limit: usize) -> Strict {
+        strict::of(mellansko::records_with_limit(log, limit))
     }
 }
 

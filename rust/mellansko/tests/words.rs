@@ -1,6 +1,7 @@
 //! The words for people, as they are to be read: beside document 01's numbers and names.
 
-use mellansko::{Condition, Reason, Refusal, Skip, Tail};
+use mellansko::{records, records_with_limit, Condition, Reason, Refusal, Skip, Tail};
+use reference::log::{fragment, FULL, LAST};
 
 #[test]
 fn of_the_reasons() {
@@ -58,4 +59,27 @@ fn of_the_conditions() {
 fn of_the_ends() {
     assert_eq!(Tail::Clean.to_string(), "clean");
     assert_eq!(Tail::Torn(49).to_string(), "torn from 49 on");
+}
+
+#[test]
+fn of_what_is_not_whole() {
+    let orphan = fragment(LAST, b"");
+    let torn = &fragment(FULL, b"LW10-1")[..9];
+    let words = "a piece of a record whose beginning is missing";
+    let first = format!("the log is in doubt from 0 to 7: {words}");
+    let said = |parts: &[&[u8]]| records(&parts.concat()).unwrap_err().to_string();
+    assert_eq!(said(&[&orphan]), first);
+    assert_eq!(
+        said(&[&orphan, &orphan]),
+        format!("{first}; in doubt in 1 more range")
+    );
+    assert_eq!(
+        said(&[&orphan, &orphan, &orphan, torn]),
+        format!("{first}; in doubt in 2 more ranges; torn from 21 on")
+    );
+    assert_eq!(said(&[&orphan, torn]), format!("{first}; torn from 7 on"));
+    assert_eq!(said(&[torn]), "the log is torn from 0 on");
+    let refused = records_with_limit(&[], 262_145).unwrap_err();
+    let words = "the log was not read: the limit is above 262144 bytes";
+    assert_eq!(refused.to_string(), words);
 }

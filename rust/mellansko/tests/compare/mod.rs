@@ -13,6 +13,7 @@ mod sizes;
 mod words;
 
 use crate::random::Random;
+use crate::strict::{self, Strict};
 use lent::Lent;
 use reference::log::{append, next, record_bytes, Appended, Next, HEADER, LONGEST_RECORD};
 
@@ -21,6 +22,8 @@ use reference::log::{append, next, record_bytes, Appended, Next, HEADER, LONGEST
 pub trait Calls {
     fn append(&self, log: &mut [u8], mark: usize, record: &[u8]) -> [u64; 10];
     fn next(&self, log: &[u8], place: usize, limit: usize, buffer: &mut [u8]) -> [u64; 10];
+    /// All records, or all that is in doubt.
+    fn records(&self, log: &[u8], limit: usize) -> Strict;
 }
 
 /// Compares on everything there is here, and gives the number of calls that were compared.
@@ -106,7 +109,8 @@ impl Comparison<'_> {
 
 /// Readings.
 impl Comparison<'_> {
-    /// Every answer from place 0 to the end, each with the bytes asked for right after it.
+    /// Every answer from place 0 to the end, each with the bytes asked for right after it; and then
+    /// the strict way, which is to have made the same of them.
     fn read(&mut self, log: &Lent, limit: usize, buffer: &mut Lent) -> Vec<(Next, Vec<u8>)> {
         let mut answers = Vec::new();
         let mut place = 0;
@@ -122,6 +126,9 @@ impl Comparison<'_> {
         // "a log of N bytes is finished in at most N/7 (rounded down) + 1 calls"
         let most = log.len() / HEADER + 1;
         assert!(answers.len() <= most, "{}", self.name("calls of a reading"));
+        let records = self.calls.records(log.tested(), limit);
+        let same = records == strict::of_answers(&answers);
+        assert!(same, "{}", self.name(&format!("records, limit {limit}")));
         answers
     }
 

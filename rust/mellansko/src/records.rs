@@ -1,0 +1,128 @@
+//! The strict way: all records of a log, or what is in doubt.
+
+use crate::{Answer, Reading, Refusal, Skip, Tail, LONGEST_RECORD};
+use std::borrow::Cow;
+use std::error::Error;
+use std::fmt;
+
+/// All records of a log that is whole, in order. If anything in it is in doubt there are none, and
+/// the error says what: a program that can't do with a part of what was written, as one that loads
+/// a table, has nothing to forget.
+///
+/// Of a log that is whole there is no skip, and the end is clean. A record can then be appended at
+/// its length.
+///
+/// This is no proof that nothing is missing. No reader of this format can tell that a log was cut
+/// exactly between two records; that blocks were left out, are there twice, or were replaced by
+/// other sound ones; or that bytes were made with a right checksum
+/// ([more on this](crate#what-no-reader-of-this-format-can-tell)).
+///
+/// ```
+/// let mut log = [0; 64];
+/// let mark = mellansko::append(&mut log, 0, b"LW10-1 0.9137")?;
+/// let mark = mellansko::append(&mut log, mark, b"LW11 0.8412")?;
+/// let records = mellansko::records(&log[..mark])?;
+/// assert_eq!(records, [&b"LW10-1 0.9137"[..], b"LW11 0.8412"]);
+///
+/// // Cut inside its second record, it is not whole, and its first one is not handed out either.
+/// let error = mellansko::records(&log[..mark - 1]).unwrap_err();
+/// assert_eq!(error.to_string(), "the log is torn from 20 on");
+/// # Ok::<(), Box<dyn std::error::Error>>(())
+/// ```
+///
+/// # Errors
+///
+/// [`NotWhole::Refused`] if the log has more than [`LONGEST_LOG`](crate::LONGEST_LOG) bytes, and
+/// [`NotWhole::InDoubt`] if a range of it is skipped or its tail is torn.
+pub fn records(log: &[u8]) -> Result<Vec<Cow<'_, [u8]>>, NotWhole> {
+    records_with_limit(log, LONGEST_RECORD)
+}
+
+/// The same, where a record of more bytes than the limit is in doubt.
+///
+/// ```
+/// use mellansko::{NotWhole, Reason};
+///
+/// let mut log = [0; 20];
+/// mellansko::append(&mut log, 0, b"LW10-1 0.9137")?;
+/// assert_eq!(mellansko::records_with_limit(&log, 13)?.len(), 1);
+/// let Err(NotWhole::InDoubt(doubt)) = mellansko::records_with_limit(&log, 12) else {
+///     panic!("the record is longer than the limit");
+/// };
+/// assert_eq!(doubt.skips[0].reason, Reason::OverLimit);
+/// # Ok::<(), Box<dyn std::error::Error>>(())
+/// ```
+///
+/// # Errors
+///
+/// Those of [`records`], and [`NotWhole::Refused`] if the limit is above [`LONGEST_RECORD`].
+pub fn records_with_limit(log: &[u8], limit: usize) -> Result<Vec<Cow<'_, [u8]>>, NotWhole> {
+    let (mut records, mut skips) = (Vec::new(), Vec::new());
+    for answer in Reading::with_limit(log, limit)? {
+        match answer {
+            Answer::Record { bytes, .. } => records.push(bytes),
+            Answer::Skip(skip) => skips.push(skip),
+            Answer::End(Tail::Clean) if skips.is_empty() => return Ok(records),
+            Answer::End(tail) => return Err(NotWhole::InDoubt(Doubt { skips, tail })),
+        }
+    }
+    unreachable!("the last answer is the end");
+}
+
+/// Why there are no [`records`].
+#[derive(Clone, Debug, PartialEq, Eq, Hash)]
+#[must_use = "the log is not whole"]
+pub enum NotWhole {
+    /// The log was not read at all.
+    Refused(Refusal),
+    /// The log was read to its end, and a part of it can't be trusted.
+    InDoubt(Doubt),
+}
+
+/// All that is in doubt in a log that is not whole: a range at least, or the tail.
+#[derive(Clone, Debug, PartialEq, Eq, Hash)]
+#[non_exhaustive]
+#[must_use = "a part of the log is in doubt"]
+pub struct Doubt {
+    /// Every range that is skipped, in order.
+    pub skips: Vec<Skip>,
+    /// How the log ends. If [torn](Tail::Torn), all from there on is in doubt as well.
+    pub tail: Tail,
+}
+
+impl From<Refusal> for NotWhole {
+    fn from(refusal: Refusal) -> NotWhole {
+        NotWhole::Refused(refusal)
+    }
+}
+
+/// In plain words, on one line.
+impl fmt::Display for NotWhole {
+    fn fmt(&self, f: &mut fmt::Formatter) -> fmt::Result {
+        match self {
+            NotWhole::Refused(refusal) => write!(f, "the log was not read: {refusal}"),
+            NotWhole::InDoubt(doubt) => write!(f, "the log is {doubt}"),
+        }
+    }
+}
+
+/// The first range in doubt, how many more there are, and the torn tail. A log may have very many.
+impl fmt::Display for Doubt {
+    fn fmt(&self, f: &mut fmt::Formatter) -> fmt::Result {
+        let mut parts = Vec::new();
+        if let Some(first) = self.skips.first() {
+            parts.push(format!("in doubt from {first}"));
+        }
+        match self.skips.len().saturating_sub(1) {
+            0 => {}
+            1 => parts.push("in doubt in 1 more range".into()),
+            more => parts.push(format!("in doubt in {more} more ranges")),
+        }
+        if let Tail::Torn(_) = self.tail {
+            parts.push(self.tail.to_string());
+        }
+        f.write_str(&parts.join("; "))
+    }
+}
+
+impl Error for NotWhole {}
