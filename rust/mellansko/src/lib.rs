@@ -64,26 +64,27 @@
 //!
 //! # What no reader of this format can tell
 //!
-//! Nothing in the bytes shows these, so all records are handed out and the end is clean:
+//! In each of these cases a log may read as whole, since nothing in its bytes shows it:
 //!
-//! - The log was cut exactly between two records: those after the cut are missing.
+//! - It was cut exactly between two records: those after the cut are missing.
 //! - Blocks were left out, are there twice, or were replaced by other sound ones, of an older journal
 //!   say. Where their pieces fit, a record may even be put together of those of two.
-//! - Bytes were made with a right checksum, or happen to have it: it is for accidents.
+//! - Bytes were made with a right checksum, or happen to have one: 32 bits are for accidents.
 //!
-//! A program that has to know keeps what shows it elsewhere, or in the records: their number, or a
-//! number in each.
+//! A program that has to know numbers its records, and keeps the last number elsewhere.
 //!
 //! # The archive
 //!
 //! The build script links the archive of the proved calls. In the repository it has the toolchain's
 //! command `rt` make that if it is missing or older than its sources. Where there is a ready one, the
-//! variable `MELLANSKO_STATICLIB` names it by an absolute path; `rt` is not called then, and no
-//! source is looked at:
+//! variable `MELLANSKO_STATICLIB` names it by an absolute path:
 //!
 //! ```sh
 //! MELLANSKO_STATICLIB=/usr/local/lib/libmellansko.a cargo build
 //! ```
+//!
+//! Then `rt` is not called and no source is looked at, so nothing shows of which sources that archive
+//! was made. The tests of this crate compare whatever is linked with a second implementation.
 
 #[cfg(not(all(target_arch = "x86_64", target_os = "linux")))]
 compile_error!("the proved calls are compiled for Linux on x86-64 alone");

@@ -5,12 +5,11 @@ use std::borrow::Cow;
 use std::error::Error;
 use std::fmt;
 
-/// All records of a log that is whole, in order. If anything in it is in doubt there are none, and
-/// the error says what: a program that can't do with a part of what was written, as one that loads
-/// a table, has nothing to forget.
+/// All records of a log that is whole, in order: of one that reads with no skip and a clean end. If
+/// anything in it is in doubt there are none, and the error says what. It is for a program that can't
+/// use a part of what was written, as one that loads a table.
 ///
-/// Of a log that is whole there is no skip, and the end is clean. A record can then be appended at
-/// its length.
+/// To a log that is whole a record can be appended, at its length.
 ///
 /// This is no proof that nothing is missing. No reader of this format can tell that a log was cut
 /// exactly between two records; that blocks were left out, are there twice, or were replaced by
