@@ -131,7 +131,7 @@ impl<'log> Reading<'log> {
     /// let mut sum = 0;
     /// while let Some(answer) = reading.advance() {
     ///     match answer {
-    ///         Answer::Record { bytes, .. } => sum += bytes.iter().map(|&byte| u32::from(byte)).sum::<u32>(),
+    ///         Answer::Record { bytes, .. } => bytes.iter().for_each(|&byte| sum += u32::from(byte)),
     ///         Answer::Skip(skip) => panic!("the sum would be of a part: {skip}"),
     ///         Answer::End(Tail::Clean) => {}
     ///         Answer::End(tail) => panic!("the sum would be of a part: {tail}"),
