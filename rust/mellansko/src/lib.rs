@@ -44,16 +44,16 @@
 //!
 //! # What is promised
 //!
-//! Of the calls that this crate links this is proved; `docs/PROOF.md` of the repository has the exact
-//! words, and what it rests on:
+//! Of the calls that this crate links this is proved. `docs/FORMAT.md` of the repository has the exact
+//! words (§5 to §7), and `docs/PROOF.md` says what the proof rests on:
 //!
-//! - Whatever they are lent, each call ends and does nothing undefined. One that is refused changes
-//!   no lent byte.
+//! - Whatever it is lent, each call ends and does nothing undefined. One that is refused changes no
+//!   lent byte.
 //! - Records that were appended one after the other, from mark 0 on, read back exactly and in order,
-//!   with nothing skipped and a clean end.
+//!   with nothing skipped and a clean end, if the limit is not below any of them.
 //! - If such a log is cut anywhere, the records that end at the cut or before it come out as written,
-//!   and one that it falls into is a torn tail. If any one block is changed, the records with no byte
-//!   in it come out as written.
+//!   and one that it falls into is a torn tail. If one block is changed in any way, the records with
+//!   no byte in it come out as written.
 //! - Of any log, every byte is in exactly one record's span, skipped range or torn tail, or in a
 //!   trailer outside of these.
 //!
@@ -64,14 +64,16 @@
 //!
 //! # What no reader of this format can tell
 //!
-//! In each of these cases a log may read as whole, since nothing in its bytes shows it:
+//! A piece of a record does not say which one it belongs to, nor a record which number it has. So in
+//! each of these cases a log may read as whole (`docs/FORMAT.md`, §8):
 //!
-//! - It was cut exactly between two records: those after the cut are missing.
+//! - It was cut exactly between two records, or in a trailer: those after the cut are missing.
 //! - Blocks were left out, are there twice, or were replaced by other sound ones, of an older journal
 //!   say. Where their pieces fit, a record may even be put together of those of two.
 //! - Bytes were made with a right checksum, or happen to have one: 32 bits are for accidents.
 //!
-//! A program that has to know numbers its records, and keeps the last number elsewhere.
+//! A program that must have everything compares what it reads with what it expects, as how many
+//! records there are.
 //!
 //! # The archive
 //!

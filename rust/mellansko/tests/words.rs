@@ -1,4 +1,5 @@
-//! The words for people, as they are to be read: beside document 01's numbers and names.
+//! The words for people, as they are to be read: beside the numbers and names of docs/FORMAT.md
+//! (§4.7, §5.1).
 
 use mellansko::{records, records_with_limit, Condition, Reason, Refusal, Skip, Tail};
 use reference::log::{fragment, FULL, LAST};

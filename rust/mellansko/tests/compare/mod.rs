@@ -123,7 +123,7 @@ impl Comparison<'_> {
                 Next::End(_) | Next::Refused { .. } => break,
             }
         }
-        // "a log of N bytes is finished in at most N/7 (rounded down) + 1 calls"
+        // docs/FORMAT.md, §6.3.
         let most = log.len() / HEADER + 1;
         assert!(answers.len() <= most, "{}", self.name("calls of a reading"));
         let records = self.calls.records(log.tested(), limit);

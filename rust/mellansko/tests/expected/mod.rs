@@ -1,5 +1,5 @@
-//! The crate's answers, in the reference's types. What its reasons and conditions are numbered is
-//! said here once more, by document 01's tables and not by the crate's lists.
+//! The crate's answers, in the reference's types. How its reasons and conditions are numbered is
+//! said here once more, by docs/FORMAT.md (§4.7, §5.1) and not by the crate's lists.
 
 // Each test program takes a part of it.
 #![allow(dead_code)]
@@ -66,7 +66,7 @@ fn reason_number(reason: Reason) -> u8 {
         Reason::Orphan => 5,
         Reason::UnknownType => 6,
         Reason::OverLimit => 7,
-        _ => panic!("document 01 does not have {reason:?}"),
+        _ => panic!("the format does not have {reason:?}"),
     };
     assert_eq!(reason.number(), number);
     number
@@ -80,7 +80,7 @@ fn condition_number(condition: Condition) -> u8 {
         Condition::NoRoom => 4,
         Condition::LimitTooHigh => 5,
         Condition::BufferTooShort => 6,
-        _ => panic!("document 01 does not have {condition:?}"),
+        _ => panic!("the format does not have {condition:?}"),
     };
     assert_eq!(condition.number(), number);
     number
