@@ -2,10 +2,13 @@
 //! LevelDB's own writer and reader.
 
 use crate::leveldb::Leveldb;
-use crate::sample::{Sample, LOG};
+use crate::sample::Sample;
 use crate::turns::{best, rate, timed, Way};
 use reference::log::{Appended, Next, LONGEST_RECORD};
 use std::hint::black_box;
+
+/// How long the logs are.
+const LOG: usize = 15 << 20;
 
 const ROUNDS: usize = 11;
 
@@ -26,7 +29,7 @@ pub fn print(mut leveldb: Option<&mut Leveldb>) {
     }
     println!();
     for length in [100, 1 << 10, 8 << 10, 100 << 10] {
-        let sample = Sample::new(length);
+        let sample = Sample::new(length, LOG);
         sample.compare(leveldb.as_deref_mut());
         sample.print_line("write", sample.writing(), leveldb.as_deref_mut());
         sample.print_line("read", sample.reading(), leveldb.as_deref_mut());

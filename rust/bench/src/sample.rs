@@ -1,8 +1,5 @@
 //! Records of one length, as many as go into a log, and the log of them.
 
-/// How long the logs are.
-pub const LOG: usize = 15 << 20;
-
 pub struct Sample {
     pub record: Vec<u8>,
     pub count: usize,
@@ -10,9 +7,9 @@ pub struct Sample {
 }
 
 impl Sample {
-    pub fn new(length: usize) -> Sample {
+    pub fn new(length: usize, log_length: usize) -> Sample {
         let record: Vec<u8> = (0..length).map(|i| (i * 7 + i / 251) as u8).collect();
-        let mut log = vec![0; LOG];
+        let mut log = vec![0; log_length];
         let (mut count, mut used) = (0, 0);
         while let Ok(mark) = mellansko::append(&mut log, used, &record) {
             count += 1;

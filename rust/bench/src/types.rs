@@ -10,12 +10,14 @@ use std::hint::black_box;
 /// Of short records, so that there is little in a call but what it costs to make it.
 const LENGTH: usize = 100;
 
-/// The difference is a small part of a call, and is looked for in the best of many.
-const ROUNDS: usize = 25;
+/// The difference is a small part of a call, and is looked for in the best of many runs. They are
+/// short, so that some of them have the machine to themselves.
+const ROUNDS: usize = 500;
+const LOG: usize = 1 << 19;
 
 pub fn print() {
     println!("\nrecords of {LENGTH} bytes: ns a call, and how many more than the call of C takes");
-    let sample = Sample::new(LENGTH);
+    let sample = Sample::new(LENGTH, LOG);
     sample.print_calls(
         "write",
         vec![("C", c_append(&sample)), ("append", append(&sample))],
@@ -102,23 +104,27 @@ fn next(sample: &Sample) -> Way<'_> {
 }
 
 fn advance(sample: &Sample) -> Way<'_> {
-    Box::new(timed(move || {
+    Box::new(move || {
         let log = &black_box(sample).log[..];
         let mut reading = Reading::of(log).expect("no refusal");
-        while let Some(Answer::Record { bytes, .. }) = reading.advance() {
-            black_box(&*bytes);
-        }
-        assert_eq!(reading.place(), log.len());
-    }))
+        timed(move || {
+            while let Some(Answer::Record { bytes, .. }) = reading.advance() {
+                black_box(&*bytes);
+            }
+            assert_eq!(reading.place(), log.len());
+        })()
+    })
 }
 
 fn iterator(sample: &Sample) -> Way<'_> {
-    Box::new(timed(move || {
+    Box::new(move || {
         let log = &black_box(sample).log[..];
         let mut reading = Reading::of(log).expect("no refusal");
-        while let Some(Answer::Record { bytes, .. }) = reading.next() {
-            black_box(&*bytes);
-        }
-        assert_eq!(reading.place(), log.len());
-    }))
+        timed(move || {
+            while let Some(Answer::Record { bytes, .. }) = reading.next() {
+                black_box(&*bytes);
+            }
+            assert_eq!(reading.place(), log.len());
+        })()
+    })
 }

@@ -1,11 +1,7 @@
 //! The proved calls, with answers of types.
 
-use crate::meaning::{number, record, refusal, skip, tail, unproved};
-use crate::numbers::{self, Numbers};
-use crate::{Next, Refusal};
-
-/// An answer before the call, which writes all of it.
-const UNWRITTEN: Numbers = [0; 10];
+use crate::numbers::{self, UNWRITTEN};
+use crate::{meaning, Next, Refusal};
 
 /// Writes a record into a log of which the bytes up to the mark are used, and gives the new mark.
 /// The bytes outside the stretch between the two keep their values.
@@ -30,11 +26,8 @@ const UNWRITTEN: Numbers = [0; 10];
 #[inline]
 pub fn append(log: &mut [u8], mark: usize, record: &[u8]) -> Result<usize, Refusal> {
     let mut answer = UNWRITTEN;
-    match numbers::append(log, mark, record, &mut answer) {
-        0 => Ok(number(&answer, 1)),
-        1 => Err(refusal(&answer)),
-        _ => unproved(&answer),
-    }
+    let kind = numbers::append(log, mark, record, &mut answer);
+    meaning::append(kind, &answer)
 }
 
 /// Reads the next thing in a log from a place on, and gives it with the place to go on from. A record
@@ -65,14 +58,8 @@ pub fn next(
     buffer: &mut [u8],
 ) -> Result<(Next, usize), Refusal> {
     let mut answer = UNWRITTEN;
-    let next = match numbers::next(log, place, limit, buffer, &mut answer) {
-        0 => Next::Record(record(&answer)),
-        1 => Next::Skip(skip(&answer)),
-        2 => Next::End(tail(&answer)),
-        3 => return Err(refusal(&answer)),
-        _ => unproved(&answer),
-    };
-    Ok((next, number(&answer, 6)))
+    let kind = numbers::next(log, place, limit, buffer, &mut answer);
+    meaning::next(kind, &answer)
 }
 
 /// The CRC32C of some bytes.

@@ -4,10 +4,33 @@
 //! are: that part goes into the caller's loop, the others are called.
 
 use crate::numbers::Numbers;
-use crate::{Condition, Reason, Record, Refusal, Skip, Stored, Tail};
+use crate::{Condition, Next, Reason, Record, Refusal, Skip, Stored, Tail};
+
+/// The new mark.
+#[inline]
+pub fn append(kind: u64, answer: &Numbers) -> Result<usize, Refusal> {
+    match kind {
+        0 => Ok(number(answer, 1)),
+        1 => Err(refusal(answer)),
+        _ => unproved(answer),
+    }
+}
+
+/// What comes next, and the place to go on from.
+#[inline]
+pub fn next(kind: u64, answer: &Numbers) -> Result<(Next, usize), Refusal> {
+    let next = match kind {
+        0 => Next::Record(record(answer)),
+        1 => Next::Skip(skip(answer)),
+        2 => Next::End(tail(answer)),
+        3 => return Err(refusal(answer)),
+        _ => unproved(answer),
+    };
+    Ok((next, number(answer, 6)))
+}
 
 #[inline]
-pub fn record(answer: &Numbers) -> Record {
+fn record(answer: &Numbers) -> Record {
     Record {
         start: number(answer, 1),
         end: number(answer, 2),
@@ -20,7 +43,7 @@ pub fn record(answer: &Numbers) -> Record {
     }
 }
 
-pub fn skip(answer: &Numbers) -> Skip {
+fn skip(answer: &Numbers) -> Skip {
     Skip {
         start: number(answer, 1),
         end: number(answer, 2),
@@ -28,7 +51,7 @@ pub fn skip(answer: &Numbers) -> Skip {
     }
 }
 
-pub fn tail(answer: &Numbers) -> Tail {
+fn tail(answer: &Numbers) -> Tail {
     match answer[1] {
         0 => Tail::Clean,
         1 => Tail::Torn(number(answer, 2)),
@@ -37,7 +60,7 @@ pub fn tail(answer: &Numbers) -> Tail {
 }
 
 #[cold]
-pub fn refusal(answer: &Numbers) -> Refusal {
+fn refusal(answer: &Numbers) -> Refusal {
     Refusal {
         condition: numbered(Condition::ALL, Condition::number, answer, 1),
         given: number(answer, 2),
@@ -46,7 +69,7 @@ pub fn refusal(answer: &Numbers) -> Refusal {
 
 /// A place, a length or a mark of an answer.
 #[inline]
-pub fn number(answer: &Numbers, at: usize) -> usize {
+fn number(answer: &Numbers, at: usize) -> usize {
     answer[at] as usize
 }
 
@@ -59,6 +82,6 @@ fn numbered<T: Copy>(all: &[T], number: fn(T) -> u8, answer: &Numbers, at: usize
 
 /// The proved calls give no such answer: what is linked is not them.
 #[cold]
-pub fn unproved(answer: &Numbers) -> ! {
+fn unproved(answer: &Numbers) -> ! {
     panic!("the archive gave an answer that there is not: {answer:?}")
 }

@@ -33,6 +33,9 @@ extern "C" {
 /// An answer.
 pub type Numbers = [u64; 10];
 
+/// An answer before the call, which writes all of it.
+pub(crate) const UNWRITTEN: Numbers = [0; 10];
+
 #[inline]
 pub(crate) fn crc32c(bytes: &[u8]) -> u32 {
     // SAFETY: the call requires nothing, reads the slice alone and keeps nothing of it.

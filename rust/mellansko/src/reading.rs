@@ -1,6 +1,7 @@
 //! A log read from its first byte to its end.
 
-use crate::{next, Next, Record, Refusal, Skip, Stored, Tail, LONGEST_RECORD};
+use crate::numbers::{self, Numbers, UNWRITTEN};
+use crate::{meaning, next, Next, Record, Refusal, Skip, Stored, Tail, LONGEST_RECORD};
 use std::borrow::Cow;
 use std::fmt;
 use std::iter::FusedIterator;
@@ -36,6 +37,8 @@ pub struct Reading<'log> {
     limit: usize,
     place: usize,
     buffer: Vec<u8>,
+    /// The last answer's numbers, kept so that no call needs new ones.
+    answer: Numbers,
     ended: bool,
 }
 
@@ -106,6 +109,7 @@ impl<'log> Reading<'log> {
             limit,
             place: 0,
             buffer,
+            answer: UNWRITTEN,
             ended: false,
         })
     }
@@ -163,11 +167,13 @@ impl<'log> Reading<'log> {
         if self.ended {
             return None;
         }
-        let (answer, place) = next(self.log, self.place, self.limit, &mut self.buffer)
-            .expect("no refusal, as at the beginning");
+        let (buffer, answer) = (&mut self.buffer, &mut self.answer);
+        let kind = numbers::next(self.log, self.place, self.limit, buffer, answer);
+        let next = meaning::next(kind, answer);
+        let (next, place) = next.expect("no refusal, as at the beginning");
         self.place = place;
-        self.ended = matches!(answer, Next::End(_));
-        Some(answer)
+        self.ended = matches!(next, Next::End(_));
+        Some(next)
     }
 }
 
