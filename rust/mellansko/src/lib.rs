@@ -67,7 +67,7 @@
 //! A piece of a record does not say which one it belongs to, nor a record which number it has. So in
 //! each of these cases a log may read as whole (`docs/FORMAT.md`, §8):
 //!
-//! - It was cut exactly between two records, or in a trailer: those after the cut are missing.
+//! - It was cut exactly between two records: those after the cut are missing.
 //! - Blocks were left out, are there twice, or were replaced by other sound ones, of an older journal
 //!   say. Where their pieces fit, a record may even be put together of those of two.
 //! - Bytes were made with a right checksum, or happen to have one: 32 bits are for accidents.
