@@ -28,7 +28,7 @@ fn main() {
         &mut buffer,
     );
     cut(
-        b"cut at 98300, in the trailer behind the second record",
+        b"cut at 98300, in the trailer after the second record",
         &mut log,
         98_300,
         &mut record,

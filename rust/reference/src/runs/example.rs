@@ -16,7 +16,7 @@ pub fn listing() -> String {
     run.read(106_310, 262_144);
     run.sums(106_310);
 
-    run.scenario("cut at 98300, in the trailer behind the second record");
+    run.scenario("cut at 98300, in the trailer after the second record");
     example(&mut run);
     run.read(98_300, 262_144);
     run.sums(98_300);
