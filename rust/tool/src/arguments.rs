@@ -5,17 +5,22 @@ mod given;
 use crate::commands::Colour;
 use crate::help;
 use crate::journal::Source;
+use crate::shell::me;
 use crate::trouble::Trouble;
-use crate::words::{me, shown};
+use crate::words::shown;
+use crate::wrap::TIED;
 use given::Given;
 use mellansko::LONGEST_RECORD;
 use std::ffi::{OsStr, OsString};
 
 pub enum Command {
-    /// A text, such as help.
-    Say(String),
+    /// One of the texts that help has.
+    Help(&'static str),
+    Version,
     Verify {
         sources: Vec<Source>,
+        /// Whether to list every gap, however many there are.
+        all: bool,
     },
     Dump {
         source: Source,
@@ -39,19 +44,19 @@ pub enum Command {
 pub fn parse(words: impl Iterator<Item = OsString>) -> Result<Command, Trouble> {
     let mut words = words;
     let Some(first) = words.next() else {
-        return Err(Trouble::Message(format!("no command.\n\n{}", help::ALL)));
+        return Err(Trouble::NoCommand);
     };
     let rest: Vec<OsString> = words.collect();
     match first.to_str() {
-        Some("verify") => Given::of("verify", help::VERIFY, &[], rest)?.command(verify),
+        Some("verify") => Given::of("verify", help::VERIFY, &["--all"], rest)?.command(verify),
         Some("dump") => Given::of("dump", help::DUMP, &["--limit"], rest)?.command(dump),
         Some("map") => Given::of("map", help::MAP, &["--blocks", "--color"], rest)?.command(map),
         Some("cat") => Given::of("cat", help::CAT, &[], rest)?.command(cat),
         Some("append") => Given::of("append", help::APPEND, &["--new"], rest)?.command(append),
         _ if is_help(&first) => help_on(&rest),
-        Some("--version" | "-V") => Ok(Command::Say(help::VERSION.into())),
+        Some("--version" | "-V") => Ok(Command::Version),
         _ => Err(Trouble::Message(format!(
-            "there is no command {}. The commands are verify, dump, map, cat and append: see {} --help",
+            "there is no command {}. The commands are verify, dump, map, cat and append: see {}{TIED}--help",
             shown(&first),
             me()
         ))),
@@ -62,7 +67,7 @@ fn help_on(rest: &[OsString]) -> Result<Command, Trouble> {
     match rest.first() {
         // Help on help is this too.
         Some(command) if !is_help(command) => parse([command.clone(), "--help".into()].into_iter()),
-        _ => Ok(Command::Say(help::ALL.into())),
+        _ => Ok(Command::Help(help::ALL)),
     }
 }
 
@@ -87,6 +92,7 @@ fn named(given: &Given, file: OsString) -> Result<OsString, Trouble> {
 }
 
 fn verify(mut given: Given) -> Result<Command, Trouble> {
+    let all = given.value("--all").is_some();
     let plain = std::mem::take(&mut given.plain);
     if plain.is_empty() {
         return Err(given.wrong("wants one file or more"));
@@ -96,7 +102,7 @@ fn verify(mut given: Given) -> Result<Command, Trouble> {
     }
     let sources = plain.into_iter().map(|word| source(&given, word));
     let sources = sources.collect::<Result<_, _>>()?;
-    Ok(Command::Verify { sources })
+    Ok(Command::Verify { sources, all })
 }
 
 fn dump(mut given: Given) -> Result<Command, Trouble> {

@@ -1,52 +1,103 @@
-//! The texts of `--help`.
+//! The texts of `--help`, and how they are laid out.
+//!
+//! A line that begins with no space is a paragraph. One that begins with two is a row of a table, or
+//! a point of a list. One that begins with four can be typed as it stands, and is never broken.
 
+use crate::page::Page;
+use crate::screen::Screen;
+use crate::shell::me;
 use crate::words::grouped;
+use crate::wrap::{untied, wrapped};
 use mellansko::{BLOCK, LONGEST_LOG, LONGEST_RECORD};
 
-/// A text with the figures of the format in it, each of which is written in one place only.
-pub fn with_figures(text: &str) -> String {
+pub fn page(text: &str, screen: Screen) -> Page {
+    let mut page = Page::new(screen);
+    for line in with_figures(text).lines() {
+        let rows = match line.starts_with("    ") {
+            true => vec![untied(line)],
+            false => {
+                let (head, rest) = line.split_at(hang(line));
+                wrapped(head, rest, head.len(), screen.help())
+            }
+        };
+        page.rows.extend(rows);
+    }
+    page
+}
+
+/// The column that a line's further rows begin in: that of a table's second column, or of a point's
+/// text.
+fn hang(line: &str) -> usize {
+    let Some(row) = line.strip_prefix("  ") else {
+        return 0;
+    };
+    match row.find("  ") {
+        Some(first) => line.len() - row[first..].trim_start().len(),
+        None if row.starts_with("- ") => 4,
+        None => 2,
+    }
+}
+
+/// A text with the figures of the format in it, each of which is written in one place only, and with
+/// the name of the tool.
+fn with_figures(text: &str) -> String {
     text.replace("{BLOCK}", &grouped(BLOCK))
         .replace("{RECORD}", &grouped(LONGEST_RECORD))
         .replace("{LOG}", &grouped(LONGEST_LOG))
+        .replace("{me}", &me())
 }
 
-pub const VERSION: &str = concat!("mellansko ", env!("CARGO_PKG_VERSION"), "\n");
+pub const VERSION: &str = concat!("mellansko ", env!("CARGO_PKG_VERSION"));
 
 pub const ALL: &str = "\
-mellansko reads and writes journals in the LevelDB log format, so that nothing is lost, invented
-or reordered silently. Its reader and its writer are proved; docs/PROOF.md says what, and what not.
+mellansko reads and writes journals in the LevelDB log format. Damage that the format shows is always named, with \
+its place and the reason. What no reader of this format can tell: a cut exactly between two records; blocks left out, \
+repeated, or replaced by sound ones; bytes made with a right checksum. The reader and the writer are proved; \
+docs/PROOF.md says what, and what not.
 
-  mellansko verify FILE..     whether journals are whole; if not, what is in doubt and why
-  mellansko dump FILE         all that is in a journal, one line each
-  mellansko map FILE          a picture of a journal, block by block
-  mellansko cat FILE N        the bytes of the N-th record
-  mellansko append FILE       appends standard input to a journal, as one record
+  mellansko verify FILE..   what damage journals show: where, and why
+  mellansko dump FILE       all that is in a journal, one line each
+  mellansko map FILE        a picture of a journal, block by block
+  mellansko cat FILE N      the bytes of the N-th record
+  mellansko append FILE     appends standard input to a journal, as one record
 
-FILE may be - for standard input, except for append. mellansko COMMAND --help says more.
+FILE may be - for standard input, except for append. With --help after it, each command says more:
 
-Exit status: 0 done, and nothing that was read is in doubt; 1 something is in doubt;
-2 not done, as with bad arguments or a file that can't be read.
+    {me} verify --help
+
+Exit status: 0 done, and no damage found in what was read; 1 something is in doubt; 2 not done, as with bad \
+arguments or a file that can't be read.
 ";
 
 pub const VERIFY: &str = "\
-mellansko verify FILE..
+mellansko verify [--all] FILE..
 
-Says whether each journal is whole. The first line answers; with several files it speaks of all
-of them. Of a journal that is not whole it lists each range of bytes in doubt with the reason,
-and where a torn tail starts. Places count from 0 and a range ends before its second number;
-blocks, of {BLOCK} bytes, count from 1.
+Says of each journal what damage it shows. The first line answers; with several files it speaks of all of them. Then \
+each gap is listed: between which records it lies, and which ranges of bytes in it are in doubt, with the reasons. \
+Places count from 0 and a range ends before its second number; blocks, of {BLOCK} bytes, and records count from 1, the \
+records as those that can be read.
 
-A whole journal has no range in doubt and no torn tail. The up to six bytes that fill up a block
-are not judged. If whole records are cut off at its end, nothing in the file shows that there were
-more: compare the number of records with what you expect.
+  --all   list every gap and every range, and not the first twenty alone
 
-A torn tail may be the record that was being written when the power went. A damaged length in the
-last block looks the same, and then the tail may hold records that were written whole. A record
-of more than {RECORD} bytes counts as in doubt too.
+If no damage is found, all that is in the file reads as records and nothing is torn. What no reader of this format can \
+tell:
 
-FILE may be - for standard input; behind -- a name may begin with a dash.
+  - a cut exactly between two records; those after it are missing
+  - blocks that are left out, repeated, or replaced by other sound blocks; records are then missing, there twice, or \
+put together from pieces of several
+  - bytes made with a right checksum, by somebody or by chance
+  - the up to six bytes that fill up a block, which are not judged
 
-Exit status: 0 all are whole; 1 at least one is in doubt; 2 at least one could not be read.
+So compare the number of records, and where the last one stands, with what you expect. Blocks that are equal byte for \
+byte get a warning, since one may have been copied over another; the exit status stays as it is.
+
+A torn end is most often the record that was being written when the power went. A damaged length in the last block \
+looks the same, and then records that were written to their end may lie there. A record of more than {RECORD} bytes \
+counts as in doubt too.
+
+FILE may be - for standard input; after -- a name may begin with a dash.
+
+Exit status: 0 no damage found; 1 at least one journal is in doubt; 2 at least one could not be read.
 ";
 
 pub const DUMP: &str = "\
@@ -54,74 +105,79 @@ mellansko dump [--limit N] FILE
 
 Lists all that is in a journal in its order, one line each, with plain numbers:
 
-  R START END LENGTH    a record: its place, and the number of its own bytes. The N-th of these
-                        lines is the record that mellansko cat FILE N gives
-  S START END REASON    a range that is skipped since it is in doubt
-  E clean               the end
-  E torn START          the end, with a torn tail from START on
-  X NUMBER              refused; nothing else follows
+  R START END LENGTH  a record: its place, and the number of its own bytes. The N-th of these lines is the record that \
+mellansko cat FILE N gives
+  S START END REASON  a range that is skipped since it is in doubt
+  E clean             the end
+  E torn START        the end, with a torn tail from START on
+  X NUMBER            refused; nothing else follows
 
-Reasons: 1 bad length, 2 blank, 3 checksum, 4 interrupted, 5 orphan, 6 unknown type, 7 over the
-limit. Refusals: 1 a journal of more than {LOG} bytes, 5 a limit of more than {RECORD}.
+Reasons: 1 bad length, 2 blank, 3 checksum, 4 interrupted, 5 orphan, 6 unknown type, 7 over the limit. Refusals: 1 a \
+journal of more than {LOG} bytes, 5 a limit of more than {RECORD}.
 
-  --limit N    skip records of more than N bytes, for reason 7; {RECORD} if not given
+  --limit N   skip records of more than N bytes, for reason 7; {RECORD} if not given
 
-FILE may be - for standard input; behind -- a name may begin with a dash.
+FILE may be - for standard input; after -- a name may begin with a dash.
 
-Exit status: 0 whole; 1 something is in doubt; 2 refused, or it could not be read.
+Exit status: 0 no damage found; 1 something is in doubt; 2 refused, or it could not be read.
 ";
 
 pub const MAP: &str = "\
 mellansko map [--blocks N] [--color WHEN] FILE
 
-Draws a journal, a cell for each block of {BLOCK} bytes:
+Draws a journal, a cell for each block of {BLOCK} bytes. Before each row stands its first block's number.
 
-  W  whole: every byte belongs to a record, or fills up the block behind the last
-  D  in doubt: a skipped range has a byte here
-  T  torn: the torn tail has a byte here
-  X  both
-  -  between two cells: a record runs on from one into the other
+  R   readable: every byte belongs to a record, or fills up the block after the last
+  D   in doubt: a skipped range has a byte here
+  T   torn: the torn tail has a byte here
+  X   both
+  -   between two cells: a record runs on from one into the other
 
-  --blocks N      draw N blocks as one cell; if not given, as many as it takes for 16 rows
-  --color WHEN    always, never, or auto: on a terminal, unless TERM is dumb or NO_COLOR is set
+  --blocks N     draw N blocks as one cell; if not given, as many as it takes for 16 rows
+  --color WHEN   always, never, or auto: on a terminal, unless TERM is dumb or NO_COLOR is set
 
-The picture is up to 80 columns wide. A record of more than {RECORD} bytes counts as in doubt.
+The picture is as wide as the terminal; elsewhere as COLUMNS says, or 80 columns. A record of more than {RECORD} bytes \
+counts as in doubt. What no reader can tell does not show here either; mellansko verify --help lists it.
 
-FILE may be - for standard input; behind -- a name may begin with a dash.
+FILE may be - for standard input; after -- a name may begin with a dash.
 
-Exit status: 0 whole; 1 something is in doubt; 2 it could not be read.
+Exit status: 0 no damage found; 1 something is in doubt; 2 it could not be read.
 ";
 
 pub const CAT: &str = "\
 mellansko cat FILE N
 
-Writes the bytes of the N-th record to standard output, just as they were appended. The records
-that can be read count from 1. If something in the journal is in doubt, that is said on standard
-error: before the record, it may be a later one of those that were written; behind it, a newer one
-may have been lost. This writes all that can be read into a folder, a file each:
+Writes the bytes of the N-th record to standard output, just as they were appended. On a terminal, bytes that it would \
+obey are shown as \\x1b instead, and the last line is ended. The records that can be read count from 1. If something in \
+the journal is in doubt, that is said on standard error: before the record, more may have been written than its number \
+says; after it, a newer one may have been lost.
 
-  mkdir records
-  for n in $(seq $(mellansko dump FILE | grep -c ^R)); do mellansko cat FILE $n > records/$n; done
+This writes all that can be read into a folder, a file each; put your journal's name for race.log:
 
-FILE may be - for standard input; behind -- a name may begin with a dash.
+    file=race.log
+    mkdir records
+    for n in $(seq $({me} dump -- \"$file\" | grep -c ^R)); do
+      {me} cat -- \"$file\" $n > records/$n
+    done
 
-Exit status: 0 written, and the journal is whole; 1 written, something in the journal is in doubt;
-2 there is no such record, or the file could not be read.
+FILE may be - for standard input; after -- a name may begin with a dash.
+
+Exit status: 0 written, and no damage found in the journal; 1 written, and something in the journal is in doubt; 2 \
+there is no such record, or the file could not be read.
 ";
 
 pub const APPEND: &str = "\
 mellansko append [--new] FILE
 
-Appends all of standard input to a journal as one record, byte for byte, at the journal's clean
-end, and says where it stands. A journal that is not whole is refused and left as it is, since a
-record behind what is in doubt might not be found again: begin another. The file only grows; if a
-write fails it is cut back to what it was. While one append is at work, another is refused.
+Appends all of standard input to a journal as one record, byte for byte, at the journal's end, and says where it \
+stands. A journal in which something is in doubt is refused and left as it is, since a record after that might not be \
+found again: begin another. The file only grows; if a write fails it is cut back to what it was. While one append is \
+at work, another is refused.
 
-  --new    begin a new journal; refused if the file is there already
+  --new   begin a new journal; refused if the file is there already
 
-A record has at most {RECORD} bytes, a journal {LOG}. No bytes are a record too: so is what
-comes of a standard input that is closed, or of a program before a pipe that failed.
+A record has at most {RECORD} bytes, a journal {LOG}. No bytes are a record too: so is what comes of a standard input \
+that is closed, or of a program before a pipe that failed.
 
-Exit status: 0 appended; 1 refused, since the journal is in doubt; 2 not appended, for another
-reason.
+Exit status: 0 appended; 1 refused, since something in the journal is in doubt; 2 not appended, for another reason.
 ";

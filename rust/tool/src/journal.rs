@@ -1,8 +1,10 @@
 //! The bytes of a journal, from a file or from standard input.
 
 use crate::progress::Progress;
-use crate::trouble::Trouble;
-use crate::words::{bytes, grouped, me, short};
+use crate::shell::{another, me, operand, typed};
+use crate::trouble::{note, Trouble};
+use crate::words::{bytes, grouped, short};
+use crate::wrap::TIED;
 use mellansko::{Condition, Refusal, LONGEST_LOG, LONGEST_RECORD};
 use std::ffi::{OsStr, OsString};
 use std::fs::File;
@@ -22,6 +24,14 @@ impl Source {
         }
     }
 
+    /// What names it on the command line.
+    pub fn word(&self) -> &OsStr {
+        match self {
+            Source::File(path) => path,
+            Source::StandardInput => OsStr::new("-"),
+        }
+    }
+
     /// All of it; of one that is too long, one byte more than a journal may have, at which the
     /// proved calls refuse it.
     pub fn read(&self, progress: &mut Progress) -> Result<Vec<u8>, Trouble> {
@@ -29,25 +39,33 @@ impl Source {
             Source::File(path) => {
                 File::open(path).and_then(|file| read(file, self.name(), LONGEST_LOG, progress))
             }
-            Source::StandardInput => return read_input(LONGEST_LOG, progress),
+            Source::StandardInput => {
+                let prompt =
+                    "reading a journal from the terminal; end it with Ctrl-D on a line of its own";
+                return read_input(prompt, LONGEST_LOG, progress);
+            }
         }
         .map_err(|error| Trouble::io(self.name(), "be read", &error))
     }
 
     /// The message for a journal that the reader refuses.
     pub fn refused(&self, refusal: Refusal) -> Trouble {
-        Trouble::of(self.name(), &why_refused(refusal))
+        Trouble::of(self.name(), &why_refused(refusal, self.word()))
     }
 }
 
 const INPUT: &str = "standard input";
 
-/// Standard input, at most one byte more than so many. Nothing is shown while it is being typed.
-pub fn read_input(most: usize, progress: &mut Progress) -> Result<Vec<u8>, Trouble> {
+/// Standard input, at most one byte more than so many. Whoever is to type it is told so, and nothing
+/// is shown meanwhile.
+pub fn read_input(prompt: &str, most: usize, progress: &mut Progress) -> Result<Vec<u8>, Trouble> {
     let name = OsStr::new(INPUT);
     let input = io::stdin().lock();
     match input.is_terminal() {
-        true => read(input, name, most, &mut Progress::silent()),
+        true => {
+            note(prompt);
+            read(input, name, most, &mut Progress::silent())
+        }
         false => read(input, name, most, progress),
     }
     .map_err(|error| Trouble::io(name, "be read", &error))
@@ -78,21 +96,20 @@ pub fn read(
     Ok(all)
 }
 
-/// What to do where a journal takes no more records.
-pub fn begin_another() -> String {
-    format!("Begin another: {} append --new OTHER-FILE", me())
+/// What to type where a journal takes no more records.
+pub fn begin_another(file: &OsStr) -> String {
+    typed("append --new", &another(file), "")
 }
 
 /// Why a proved call refuses a journal or a record, and what to do.
-pub fn why_refused(refusal: Refusal) -> String {
+pub fn why_refused(refusal: Refusal, file: &OsStr) -> String {
     let (log, record) = (grouped(LONGEST_LOG), grouped(LONGEST_RECORD));
     let (why, advice) = match refusal.condition {
         Condition::LogTooLong => (
             format!("it is longer than {log} bytes, the most that a journal may have"),
             format!(
-                ". Nothing of it was judged; for what its beginning holds, with an end that will look torn, run: \
-                 head -c {LONGEST_LOG} FILE | {} verify -",
-                me()
+                ". Nothing of it was judged; for what its beginning holds, with an end that will look torn, run: {}",
+                only_beginning(file)
             ),
         ),
         Condition::RecordTooLong => (
@@ -101,11 +118,17 @@ pub fn why_refused(refusal: Refusal) -> String {
         ),
         Condition::NoRoom => (
             format!("with the record the journal would be longer than {log} bytes"),
-            format!(". {}", begin_another()),
+            format!(". Begin another: {}", begin_another(file)),
         ),
         Condition::LimitTooHigh => (format!("the highest limit is {record} bytes"), String::new()),
         _ => (refusal.to_string(), String::new()),
     };
     let number = refusal.condition.number();
     format!("{why} (refusal {number}){advice}")
+}
+
+/// What to type for as much of a file as a journal may have.
+fn only_beginning(file: &OsStr) -> String {
+    let (me, file) = (me(), operand(file));
+    format!("head -c {LONGEST_LOG} {file} | {me} verify -").replace(' ', &TIED.to_string())
 }

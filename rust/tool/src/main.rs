@@ -1,29 +1,37 @@
-//! The command-line tool: says whether a journal is whole, lists what is in it, draws it, hands out
+//! The command-line tool: says what damage a journal shows, lists what is in it, draws it, hands out
 //! a record's bytes, and appends a record.
 //!
 //! What a journal says is answered by the proved calls alone; here are files, words and colours.
 
 mod arguments;
 mod commands;
+mod gap;
 mod help;
 mod journal;
 mod output;
+mod page;
 mod progress;
+mod screen;
+mod shell;
 mod survey;
 mod trouble;
+mod twins;
+mod verdict;
 mod words;
+mod wrap;
 
 use arguments::Command;
 use output::Output;
-use std::env;
+use screen::Screen;
 use std::process::ExitCode;
+use std::{env, io};
 use trouble::Trouble;
 
 /// What the exit status says.
 #[derive(Clone, Copy, PartialEq, Eq, PartialOrd, Ord)]
 enum Status {
-    /// Done, and nothing that was read is in doubt.
-    Whole = 0,
+    /// Done, and no damage found in what was read.
+    Done = 0,
     /// Something is in doubt.
     Doubt = 1,
     /// Not done.
@@ -42,11 +50,15 @@ fn run() -> Result<Status, Trouble> {
     let command = arguments::parse(env::args_os().skip(1))?;
     let mut output = Output::new();
     let status = match command {
-        Command::Say(text) => {
-            output.write(text.as_bytes())?;
-            Status::Whole
+        Command::Help(text) => {
+            output.page(&help::page(text, Screen::of(&io::stdout())))?;
+            Status::Done
         }
-        Command::Verify { sources } => commands::verify(&sources, &mut output)?,
+        Command::Version => {
+            output.line(help::VERSION)?;
+            Status::Done
+        }
+        Command::Verify { sources, all } => commands::verify(&sources, all, &mut output)?,
         Command::Dump { source, limit } => commands::dump(&source, limit, &mut output)?,
         Command::Map {
             source,

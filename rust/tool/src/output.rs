@@ -1,5 +1,6 @@
 //! Standard output, of which no failure goes unnoticed.
 
+use crate::page::Page;
 use crate::trouble::Trouble;
 use std::io::{self, BufWriter, StdoutLock, Write};
 
@@ -16,6 +17,10 @@ impl Output {
 
     pub fn line(&mut self, line: &str) -> Result<(), Trouble> {
         writeln!(self.0, "{line}").map_err(trouble)
+    }
+
+    pub fn page(&mut self, page: &Page) -> Result<(), Trouble> {
+        page.rows.iter().try_for_each(|row| self.line(row))
     }
 
     /// Has all that was written read before what is said next on standard error.

@@ -1,5 +1,6 @@
 //! One line on standard error while something takes long, if that is a terminal.
 
+use crate::wrap::untied;
 use std::io::{self, IsTerminal, Write};
 use std::time::{Duration, Instant};
 
@@ -34,7 +35,7 @@ impl Progress {
             self.due = Some(now + PAUSE);
             self.spoken = true;
             let mut error = io::stderr();
-            let _ = write!(error, "\r\x1b[K{}", line());
+            let _ = write!(error, "\r\x1b[K{}", untied(&line()));
             let _ = error.flush();
         }
     }

@@ -1,19 +1,19 @@
 //! What one reading of a journal finds.
 
+use crate::gap::{Doubt, Gap, Place};
 use crate::progress::Progress;
-use crate::words::{blocks, blocks_of, bytes, count, grouped, short};
+use crate::words::{blocks_of, short};
 use crate::Status;
-use mellansko::{Answer, Reading, Record, Refusal, Skip, Tail, BLOCK};
+use mellansko::{Answer, Reading, Reason, Record, Refusal, Tail, BLOCK};
 use std::ffi::OsStr;
 
 pub struct Survey {
     /// The journal's bytes.
     pub length: usize,
-    /// How many records can be read.
-    pub records: usize,
-    pub skips: Vec<Skip>,
-    /// Where the torn tail starts, if there is one.
-    pub torn: Option<usize>,
+    /// The last record that can be read.
+    pub last: Option<Place>,
+    /// What is in doubt, in order.
+    pub gaps: Vec<Gap>,
     /// For each block, whether a record runs on from it into the next.
     pub runs_on: Vec<bool>,
 }
@@ -23,17 +23,16 @@ impl Survey {
         let mut reading = Reading::of(log)?;
         let mut survey = Survey {
             length: log.len(),
-            records: 0,
-            skips: Vec::new(),
-            torn: None,
+            last: None,
+            gaps: Vec::new(),
             runs_on: vec![false; log.len().div_ceil(BLOCK)],
         };
         while let Some(answer) = reading.advance() {
             match answer {
                 Answer::Record { record, .. } => survey.add(&record),
-                Answer::Skip(skip) => survey.skips.push(skip),
+                Answer::Skip(skip) => survey.doubt(skip.start, skip.end, Some(skip.reason)),
                 Answer::End(Tail::Clean) => {}
-                Answer::End(Tail::Torn(start)) => survey.torn = Some(start),
+                Answer::End(Tail::Torn(start)) => survey.doubt(start, log.len(), None),
             }
             progress.show(|| {
                 let percent = reading.place() * 100 / log.len().max(1);
@@ -44,65 +43,61 @@ impl Survey {
     }
 
     fn add(&mut self, record: &Record) {
-        self.records += 1;
+        let place = Place {
+            number: self.records() + 1,
+            start: record.start,
+            end: record.end,
+        };
+        if let Some(gap) = self.open_gap() {
+            gap.after = Some(place);
+        }
+        self.last = Some(place);
         let (first, last) = blocks_of(record.start, record.end);
         self.runs_on[first - 1..last - 1].fill(true);
     }
 
+    fn doubt(&mut self, start: usize, end: usize, reason: Option<Reason>) {
+        let range = Doubt { start, end, reason };
+        let before = self.last;
+        match self.open_gap() {
+            Some(gap) => gap.ranges.push(range),
+            None => self.gaps.push(Gap {
+                before,
+                after: None,
+                ranges: vec![range],
+            }),
+        }
+    }
+
+    /// The gap after which no record has been read so far.
+    fn open_gap(&mut self) -> Option<&mut Gap> {
+        self.gaps.last_mut().filter(|gap| gap.after.is_none())
+    }
+
+    /// How many records can be read.
+    pub fn records(&self) -> usize {
+        self.last.map_or(0, |last| last.number)
+    }
+
+    pub fn blocks(&self) -> usize {
+        self.length.div_ceil(BLOCK)
+    }
+
     pub fn status(&self) -> Status {
-        match self.doubtful().next() {
-            None => Status::Whole,
-            Some(_) => Status::Doubt,
+        match self.gaps.is_empty() {
+            true => Status::Done,
+            false => Status::Doubt,
         }
     }
 
-    /// Every range in doubt, in order: what is skipped, and then the torn tail.
-    pub fn doubtful(&self) -> impl Iterator<Item = (usize, usize)> + '_ {
-        let tail = self.torn.map(|start| (start, self.length));
-        self.skips
-            .iter()
-            .map(|skip| (skip.start, skip.end))
-            .chain(tail)
+    /// Every range in doubt, in order.
+    pub fn doubtful(&self) -> impl Iterator<Item = &Doubt> + '_ {
+        self.gaps.iter().flat_map(|gap| &gap.ranges)
     }
 
-    /// The answer to whether the journal is whole, in one line.
-    pub fn verdict(&self) -> String {
-        let records = count(self.records, "record", "records");
-        let blocks_in_all = self.length.div_ceil(BLOCK);
-        if self.length == 0 {
-            return "whole, but empty: it has no bytes and no records".into();
-        }
-        if self.status() == Status::Whole {
-            return format!(
-                "whole: {records}, {} in {}, nothing in doubt",
-                bytes(self.length),
-                count(blocks_in_all, "block", "blocks")
-            );
-        }
-        let doubt = self.doubtful().map(|(start, end)| end - start).sum();
-        format!(
-            "NOT WHOLE: {} of {} in doubt, in {} of {}{}. {records} can be read",
-            grouped(doubt),
-            bytes(self.length),
-            blocks(&self.doubtful_blocks()),
-            grouped(blocks_in_all),
-            match self.torn {
-                Some(start) => format!("; the tail is torn from byte {} on", grouped(start)),
-                None => String::new(),
-            }
-        )
-    }
-
-    /// The blocks that have a byte in doubt, as runs of their numbers from 1 on.
-    fn doubtful_blocks(&self) -> Vec<(usize, usize)> {
-        let mut runs: Vec<(usize, usize)> = Vec::new();
-        for (start, end) in self.doubtful() {
-            let (first, last) = blocks_of(start, end);
-            match runs.last_mut() {
-                Some(run) if first <= run.1 + 1 => run.1 = run.1.max(last),
-                _ => runs.push((first, last)),
-            }
-        }
-        runs
+    /// Where the torn tail starts, if there is one.
+    pub fn torn(&self) -> Option<usize> {
+        let last = self.gaps.last()?.ranges.last()?;
+        last.reason.is_none().then_some(last.start)
     }
 }

@@ -1,12 +1,17 @@
 //! What keeps the tool from doing what it was asked.
 
+use crate::help;
+use crate::screen::Screen;
 use crate::words::shown;
+use crate::wrap::wrapped;
 use std::ffi::OsStr;
 use std::io::{self, Write};
 
 pub enum Trouble {
     /// A message for the user: what is wrong, with what, and what to do.
     Message(String),
+    /// Nothing was asked for.
+    NoCommand,
     /// Nobody reads the output any more, and nobody needs to be told.
     Closed,
 }
@@ -23,8 +28,14 @@ impl Trouble {
     }
 
     pub fn tell(&self) {
-        if let Trouble::Message(message) = self {
-            note(message);
+        match self {
+            Trouble::Message(message) => note(message),
+            Trouble::NoCommand => {
+                let help = help::page(help::ALL, Screen::of(&io::stderr()));
+                say(&["mellansko: no command.".into(), String::new()]);
+                say(&help.rows);
+            }
+            Trouble::Closed => {}
         }
     }
 }
@@ -49,7 +60,13 @@ pub fn in_words(error: &io::Error) -> String {
     words.into()
 }
 
-/// Says something on standard error. Where that is closed, there is nobody to tell.
+/// Says something on standard error.
 pub fn note(message: &str) {
-    let _ = writeln!(io::stderr(), "mellansko: {message}");
+    let columns = Screen::of(&io::stderr()).entry();
+    say(&wrapped("mellansko: ", message, 4, columns));
+}
+
+/// Where standard error is closed, there is nobody to tell.
+fn say(rows: &[String]) {
+    let _ = io::stderr().write_all(format!("{}\n", rows.join("\n")).as_bytes());
 }

@@ -1,21 +1,20 @@
 //! Numbers, names and lists as a reader of English wants them.
 
+use crate::wrap::TIED;
 use mellansko::BLOCK;
-use std::env;
 use std::ffi::OsStr;
 
-/// What the user has to type for this tool: the script that starts it says.
-pub fn me() -> String {
-    env::var_os("MELLANSKO").map_or("mellansko".into(), |me| shown(&me))
-}
-
-/// A number with its thousands set apart.
+/// A number with its thousands set apart, from five digits on. By a space: a comma, a point and an
+/// apostrophe each part a number from its fraction somewhere.
 pub fn grouped(number: usize) -> String {
     let digits = number.to_string();
+    if digits.len() < 5 {
+        return digits;
+    }
     let mut text = String::new();
     for (i, digit) in digits.chars().enumerate() {
         if i > 0 && (digits.len() - i).is_multiple_of(3) {
-            text.push(',');
+            text.push(TIED);
         }
         text.push(digit);
     }
@@ -35,32 +34,51 @@ pub fn bytes(number: usize) -> String {
     count(number, "byte", "bytes")
 }
 
+pub fn records(number: usize) -> String {
+    count(number, "record", "records")
+}
+
+/// A place and the one that it ends before.
+pub fn from_to(start: usize, end: usize) -> String {
+    format!("bytes {} to {}", grouped(start), grouped(end))
+}
+
 /// The first and the last of the blocks, counted from 1, that a range with a byte in it touches.
 pub fn blocks_of(start: usize, end: usize) -> (usize, usize) {
     (start / BLOCK + 1, (end - 1) / BLOCK + 1)
 }
 
-/// Runs of blocks as "block 3", or "blocks 1, 3 and 5 to 7".
-pub fn blocks(runs: &[(usize, usize)]) -> String {
-    let one = matches!(runs, [(first, last)] if first == last);
-    let runs: Vec<String> = runs
-        .iter()
-        .map(|&(first, last)| match last - first {
-            0 => grouped(first),
-            _ => format!("{} to {}", grouped(first), grouped(last)),
-        })
-        .collect();
-    let word = if one { "block" } else { "blocks" };
-    match runs.split_last() {
-        Some((last, [])) => format!("{word} {last}"),
-        Some((last, others)) => format!("{word} {} and {last}", others.join(", ")),
-        None => "no block".into(),
+/// Blocks from one to another.
+pub fn blocks(first: usize, last: usize) -> String {
+    match last - first {
+        0 => format!("block {}", grouped(first)),
+        _ => format!("blocks {} to {}", grouped(first), grouped(last)),
     }
+}
+
+/// Some of a journal's blocks, as runs of their numbers: "block 3 of 5", "blocks 1 and 5 to 7 of 9",
+/// or how many there are, if they are too scattered for a line.
+pub fn blocks_among(runs: &[(usize, usize)], in_all: usize) -> String {
+    const MOST: usize = 3;
+    if runs.len() > MOST {
+        let number = runs.iter().map(|(first, last)| last - first + 1).sum();
+        return format!("{} of its {} blocks", grouped(number), grouped(in_all));
+    }
+    let one = |&(first, last): &(usize, usize)| match last - first {
+        0 => grouped(first),
+        _ => format!("{} to {}", grouped(first), grouped(last)),
+    };
+    let word = match runs {
+        [(first, last)] if first == last => "block",
+        _ => "blocks",
+    };
+    let runs: Vec<String> = runs.iter().map(one).collect();
+    format!("{word} {} of{TIED}{}", runs.join(" and "), grouped(in_all))
 }
 
 /// The end of a file's name, short enough for a line with more on it.
 pub fn short(name: &OsStr) -> String {
-    const MOST: usize = 40;
+    const MOST: usize = 30;
     let name = shown(name);
     let more = name.chars().count().saturating_sub(MOST);
     match name.char_indices().nth(more) {
@@ -85,6 +103,6 @@ pub fn shown(name: &OsStr) -> String {
 }
 
 /// The marks of Unicode that end a line or a paragraph, or turn the direction.
-fn ends_or_turns(c: char) -> bool {
+pub fn ends_or_turns(c: char) -> bool {
     matches!(c, '\u{61c}' | '\u{200e}' | '\u{200f}' | '\u{2028}'..='\u{202e}' | '\u{2066}'..='\u{2069}')
 }

@@ -1,4 +1,4 @@
-//! `mellansko append`: a record at the clean end of a journal, or nothing at all.
+//! `mellansko append`: a record at the end of a journal, or nothing at all.
 
 #[macro_use]
 mod common;
@@ -7,6 +7,7 @@ use common::damage::{mixed_log, small_logs};
 use common::expect::{add, count, grouped, longest_log, written, Found};
 use common::files::{as_nobody, left_out, Folder};
 use common::random::Random;
+use common::report::check_verdict;
 use common::{fed, finish, tool, Ran};
 use std::fs::{self, File, OpenOptions};
 use std::io::pipe;
@@ -99,8 +100,8 @@ fn a_record_of_262_144_bytes_is_taken_and_a_longer_one_refused() {
     let folder = Folder::new("append-longest");
     let before = written(&[b"times"]);
     let file = folder.file("log", &before);
-    append(&file, &vec![7; 262_145]).failed(2, &["log", "nothing was appended", "262,144", "3"]);
-    append(&file, &vec![7; 1_000_000]).failed(2, &["262,144", "refusal 3"]);
+    append(&file, &vec![7; 262_145]).failed(2, &["log", "nothing was appended", "262 144", "3"]);
+    append(&file, &vec![7; 1_000_000]).failed(2, &["262 144", "refusal 3"]);
     assert_eq!(bytes_of(&file), before);
     let new = folder.join("new");
     append_new(&new, &vec![7; 262_145]).failed(2, &["new", "refusal 3"]);
@@ -123,19 +124,25 @@ fn a_journal_in_doubt_is_refused_and_left_as_it_is() {
     for log in logs {
         let file = folder.file("times", &log);
         let ran = append(&file, b"more");
-        let advice = [
-            "Begin another: mellansko append --new",
-            "mellansko verify FILE",
-        ];
-        ran.failed(1, &["times", "nothing was appended", "NOT WHOLE"]);
-        ran.warned(&advice);
-        let found = Found::in_log(&log);
-        let doubt: usize = found.doubtful().iter().map(|range| range.len()).sum();
-        ran.warned(&[&format!(
-            "{} of {} ",
-            grouped(doubt),
-            count(log.len(), "byte")
-        )]);
+        assert_eq!((ran.status, ran.text()), (Some(1), ""));
+        let (verify, another) = (file.display(), folder.join("times-2"));
+        let begin = format!("{}: nothing was appended", file.display());
+        let said: Vec<&str> = ran.err.lines().collect();
+        let verdict = said[0].strip_prefix(&format!("mellansko: {begin}"));
+        let verdict = verdict
+            .expect(&begin)
+            .split_once(". After what is in doubt");
+        check_verdict(verdict.expect("a verdict").0, &Found::in_log(&log));
+        assert_eq!(
+            said[1..],
+            [
+                format!(
+                    "mellansko: to begin another journal: mellansko append --new {}",
+                    another.display()
+                ),
+                format!("mellansko: to see what is in doubt: mellansko verify {verify}"),
+            ]
+        );
         assert!(bytes_of(&file) == log, "{log:x?}");
     }
 }
@@ -147,7 +154,7 @@ fn the_last_room_is_taken_and_no_more() {
     let file = folder.file("log", &longest);
     append(&file, b"").failed(
         2,
-        &["log", "nothing was appended", "16,777,216", "refusal 4"],
+        &["log", "nothing was appended", "16 777 216", "refusal 4"],
     );
     assert!(bytes_of(&file) == longest);
 
@@ -166,7 +173,7 @@ fn the_last_room_is_taken_and_no_more() {
     let file = folder.file("log", &too_long);
     append(&file, b"").failed(
         2,
-        &["log", "nothing was appended", "16,777,216", "refusal 1"],
+        &["log", "nothing was appended", "16 777 216", "refusal 1"],
     );
     assert!(bytes_of(&file) == too_long);
 }
@@ -357,7 +364,9 @@ fn what_happens_while_the_record_is_typed_is_not_overlooked() {
     meanwhile(&[], &file, || change(&more)).done();
     assert_eq!(bytes_of(&file), written(&["first", "second", "mine"]));
 
-    meanwhile(&[], &file, || change(&more[..15])).failed(1, &["NOT WHOLE"]);
+    let doubtful = meanwhile(&[], &file, || change(&more[..15]));
+    assert_eq!((doubtful.status, doubtful.text()), (Some(1), ""));
+    doubtful.warned(&["IN DOUBT"]);
     assert_eq!(bytes_of(&file), more[..15]);
 
     // Another file under the name: the record is not to be lost with the old one.

@@ -27,10 +27,10 @@ fn help_comes_on_standard_output_for_the_tool_and_each_command() {
             help.starts_with(&first) && help.contains("Exit status"),
             "{help}"
         );
-        assert!(help.lines().all(|line| line.len() <= 100), "{help}");
+        assert!(help.lines().all(|line| line.len() <= 80), "{help}");
         // Figures, and no names of figures.
         assert!(!help.contains(['{', '}']), "{help}");
-        // With other words before or behind it, nothing is done but help.
+        // With other words before or after it, nothing is done but help.
         for words in [
             &[command, "-h"][..],
             &[command, "a", "b", "c", "--help"],
@@ -47,10 +47,10 @@ fn help_comes_on_standard_output_for_the_tool_and_each_command() {
 #[test]
 fn help_names_the_figures_of_the_format() {
     for (command, figures) in [
-        ("verify", &["32,768", "262,144"][..]),
-        ("dump", &["16,777,216", "262,144"]),
-        ("map", &["32,768", "262,144"]),
-        ("append", &["16,777,216", "262,144"]),
+        ("verify", &["32 768", "262 144"][..]),
+        ("dump", &["16 777 216", "262 144"]),
+        ("map", &["32 768", "262 144"]),
+        ("append", &["16 777 216", "262 144"]),
     ] {
         let ran = run!(command, "--help");
         for figure in figures {
@@ -93,7 +93,7 @@ fn no_command_gives_help_as_a_complaint() {
 }
 
 /// Bad arguments, and what the message says of them.
-const BAD: [(&[&str], &[&str]); 38] = [
+const BAD: [(&[&str], &[&str]); 40] = [
     (
         &["vrify", "x"],
         &["no command vrify", "verify, dump, map, cat and append"],
@@ -117,6 +117,14 @@ const BAD: [(&[&str], &[&str]); 38] = [
         &["verify", "no option --quiet"],
     ),
     (&["verify", "-q", "x"], &["verify", "no option -q"]),
+    (
+        &["verify", "--all=yes", "x"],
+        &["verify", "--all", "no value"],
+    ),
+    (
+        &["verify", "--all", "--all", "x"],
+        &["verify", "--all", "twice"],
+    ),
     (
         &["verify", "--limit", "1", "x"],
         &["verify", "no option --limit"],

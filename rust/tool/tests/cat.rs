@@ -65,20 +65,20 @@ fn a_number_is_digits_and_not_0() {
 }
 
 #[test]
-fn a_doubt_before_the_record_and_one_behind_it_are_told_apart() {
+fn a_doubt_before_the_record_and_one_after_it_are_told_apart() {
     let folder = Folder::new("cat-doubt");
-    // Block 2 is in doubt; behind it stand records 2 and 3 of those that can be read.
+    // Block 2 is in doubt; after it stand records 2 and 3 of those that can be read.
     let mut log = written(&vec![vec![8; 32_761]; 3]);
     log.extend(written(&[b"third"]));
     log[32_768 + 9] ^= 1;
     let found = Found::in_log(&log);
     assert_eq!((found.records.len(), found.skips.len()), (3, 1));
     let file = folder.file("times", &log);
-    let (before, behind) = ("before it 32,768 bytes are", "behind it 32,768 bytes are");
+    let (before, after) = ("Before it 32 768 bytes are", "After it 32 768 bytes are");
     for (number, says, not) in [
-        ("1", behind, before),
-        ("2", before, behind),
-        ("3", before, behind),
+        ("1", after, before),
+        ("2", before, after),
+        ("3", before, after),
     ] {
         let ran = run!("cat", &file, number);
         ran.complained(1, &["times", &format!("record {number} "), says]);
@@ -86,10 +86,10 @@ fn a_doubt_before_the_record_and_one_behind_it_are_told_apart() {
     }
     assert_eq!(run!("cat", &file, "1").out, vec![8; 32_761]);
     assert_eq!(run!("cat", &file, "3").out, b"third");
-    // A torn tail is behind all records.
+    // A torn tail is after all records.
     let torn = folder.file("times", &written(&["first", "second"])[..20]);
     let ran = run!("cat", &torn, "1");
-    ran.complained(1, &["behind it 8 bytes are in doubt", "a newer one"]);
+    ran.complained(1, &["After it 8 bytes are in doubt", "a newer one"]);
     assert_eq!(ran.out, b"first");
 }
 
@@ -108,9 +108,9 @@ fn of_damaged_logs_every_record_comes_out_with_the_right_status() {
             let ran = run!("cat", &file, (i + 1).to_string());
             assert_eq!(ran.status, Some(found.status()), "{range:?}: {}", ran.err);
             let before = doubt.iter().any(|doubt| doubt.start < range.start);
-            let behind = doubt.iter().any(|doubt| doubt.start > range.start);
-            let says = ["before it", "behind it"].map(|words| ran.err.contains(words));
-            assert_eq!(says, [before, behind], "{range:?}: {}", ran.err);
+            let after = doubt.iter().any(|doubt| doubt.start > range.start);
+            let says = ["Before it", "After it"].map(|words| ran.err.contains(words));
+            assert_eq!(says, [before, after], "{range:?}: {}", ran.err);
             assert!(ran.out == *bytes, "{range:?}");
         }
         let beyond = (found.records.len() + 1).to_string();

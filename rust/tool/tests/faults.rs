@@ -68,7 +68,7 @@ fn a_record_that_does_not_reach_the_disk_is_taken_back() {
 }
 
 #[test]
-fn what_another_program_writes_after_the_reading_is_not_written_behind() {
+fn after_what_another_program_writes_meanwhile_nothing_is_written() {
     let folder = Folder::new("faults-grow");
     let Some(library) = faults(&folder) else {
         return;

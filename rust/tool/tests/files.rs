@@ -61,13 +61,12 @@ fn a_file_without_permission_is_named_with_the_reason() {
 }
 
 #[test]
-fn an_empty_file_is_whole_and_has_no_record() {
+fn an_empty_file_shows_no_damage_and_has_no_record() {
     let folder = Folder::new("files-empty");
     let file = folder.file("times", b"");
     let verified = run!("verify", &file);
     let lines = verified.done().lines();
-    assert_eq!(lines.len(), 1);
-    assert!(lines[0].contains("times: whole") && lines[0].contains("empty"));
+    assert!(lines[0].contains("times: no damage found") && lines[0].contains("empty"));
     assert_eq!(run!("dump", &file).done().text(), "E clean\n");
     run!("cat", &file, "1").failed(2, &["times", "no record 1", "0 records"]);
 }
@@ -80,7 +79,7 @@ fn the_longest_log_is_read_and_one_byte_more_refused() {
     let found = Found::in_log(&log);
     let verified = run!("verify", &file);
     let figures = format!(
-        "whole: {}, 16,777,216 bytes in 512 blocks",
+        "no damage found in its 16 777 216 bytes, 512 blocks. It has {};",
         count(found.records.len(), "record")
     );
     assert!(
@@ -102,8 +101,9 @@ fn the_longest_log_is_read_and_one_byte_more_refused() {
         2,
         &[
             "standard input",
-            "longer than 16,777,216 bytes",
+            "longer than 16 777 216 bytes",
             "refusal 1",
+            "head -c 16777216 - | mellansko verify -",
         ],
     );
 }
@@ -114,10 +114,11 @@ fn each_refuses(file: &Path, name: &str) {
         let dump = command.get_args().any(|word| word == "dump");
         let ran = ran(&mut command);
         assert_eq!(ran.text(), if dump { "X 1\n" } else { "" });
-        let advice = "head -c 16777216 FILE | mellansko verify -";
+        let file = file.display();
+        let advice = format!("head -c 16777216 {file} | mellansko verify -");
         ran.complained(
             2,
-            &[name, "longer than 16,777,216 bytes", "refusal 1", advice],
+            &[name, "longer than 16 777 216 bytes", "refusal 1", &advice],
         );
     }
 }
@@ -184,7 +185,7 @@ fn a_name_with_spaces_or_not_in_utf_8_is_a_name_like_others() {
     ] {
         let file = folder.file(&name, &log);
         let verified = run!("verify", &file);
-        let shown = format!("{}: whole: 1 record", name.to_string_lossy());
+        let shown = format!("{}: no damage found", name.to_string_lossy());
         assert!(
             verified.done().text().contains(&shown),
             "{}",
@@ -201,7 +202,7 @@ fn a_name_with_spaces_or_not_in_utf_8_is_a_name_like_others() {
 #[test]
 fn a_name_forges_no_line() {
     let folder = Folder::new("files-forged");
-    let forged = "All 1 journals are whole.";
+    let forged = "No damage found in any of 1 journals.";
     let names = [
         format!("x\n{forged}\ny"),
         format!("x\r{forged}\ry"),

@@ -7,13 +7,15 @@ use common::damage::{long_logs, mixed_log};
 use common::expect::{count, grouped, longest_log, numbers, without_codes, written, Found};
 use common::files::Folder;
 use common::random::Random;
+use common::report::check_verdict;
+use common::terminal::{is_there, ran_on};
 use common::{fed, ran, tool};
 use reference::log::BLOCK;
 use std::ops::Range;
 
-/// The rows that a log is drawn in, with so many blocks a cell: the place of a row's first byte,
-/// and its cells, each a letter and a joint.
-fn rows(found: &Found, blocks: usize) -> Vec<(String, String)> {
+/// The rows that a log is drawn in, with so many blocks a cell and so many cells a row: the number of
+/// a row's first block, and its cells, each a letter and a joint.
+fn rows_of(found: &Found, blocks: usize, row: usize) -> Vec<(usize, String)> {
     let cell_bytes = blocks * BLOCK;
     let cells = found.length.div_ceil(cell_bytes);
     let in_cell = |cell: usize, start: usize, end: usize| {
@@ -27,7 +29,7 @@ fn rows(found: &Found, blocks: usize) -> Vec<(String, String)> {
             .torn
             .is_some_and(|start| in_cell(cell, start, found.length));
         let letter = match (doubt, torn) {
-            (false, false) => 'W',
+            (false, false) => 'R',
             (true, false) => 'D',
             (false, true) => 'T',
             (true, true) => 'X',
@@ -39,8 +41,8 @@ fn rows(found: &Found, blocks: usize) -> Vec<(String, String)> {
         } else {
             ' '
         };
-        if cell % 32 == 0 {
-            rows.push((grouped(cell * cell_bytes), String::new()));
+        if cell % row == 0 {
+            rows.push((cell * blocks + 1, String::new()));
         }
         rows.last_mut().expect("a row").1.extend([letter, joint]);
     }
@@ -50,34 +52,42 @@ fn rows(found: &Found, blocks: usize) -> Vec<(String, String)> {
     rows
 }
 
+/// The rows on a screen of 80 columns, or where there is none.
+fn rows(found: &Found, blocks: usize) -> Vec<(usize, String)> {
+    rows_of(found, blocks, 32)
+}
+
 /// Holds a picture to the reference: the answer, the rows, an empty line, and the legend.
 fn check(lines: &[&str], found: &Found, blocks: usize) {
-    let rows = rows(found, blocks);
-    let word = if found.is_whole() {
-        ": whole"
-    } else {
-        ": NOT WHOLE"
-    };
-    assert!(lines[0].contains(word), "{}", lines[0]);
-    for (line, (place, cells)) in lines[1..].iter().zip(&rows) {
-        let drawn = line.trim_start().split_once("  ").expect("two columns");
-        assert_eq!(drawn, (place.as_str(), cells.as_str()));
-        assert!(line.len() < 80, "{line}");
-        // All rows begin in one column.
-        assert_eq!(line.find(['W', 'D', 'T', 'X']), Some(15), "{line}");
-    }
-    let [empty, letters, joint, cell] = lines[1 + rows.len()..] else {
+    let (_, verdict) = lines[0].split_once(": ").expect("a name");
+    check_verdict(&format!(": {verdict}"), found);
+    let after = check_rows(&lines[1..], &rows(found, blocks));
+    let [empty, letters, joint, cell] = after else {
         panic!("{lines:?}");
     };
-    assert_eq!(empty, "");
-    for meaning in ["W whole", "D in doubt", "T torn", "X "] {
+    assert_eq!(*empty, "");
+    for meaning in ["R readable", "D in doubt", "T torn", "X "] {
         assert!(letters.contains(meaning), "{letters}");
     }
     assert!(joint.starts_with("- "), "{joint}");
-    for line in [letters, joint, cell] {
-        assert!(line.len() < 80, "{line}");
-    }
     assert!(cell.contains(&count(blocks * BLOCK, "byte")), "{cell}");
+    for line in &lines[1..] {
+        assert!(line.len() <= 80, "{line}");
+    }
+}
+
+/// Holds rows to those that are expected, and gives the lines after them.
+fn check_rows<'a>(lines: &'a [&'a str], rows: &[(usize, String)]) -> &'a [&'a str] {
+    let (drawn, after) = lines.split_at(rows.len());
+    let column = |line: &str| line.rfind("  ").expect("two columns");
+    for (line, (block, cells)) in drawn.iter().zip(rows) {
+        let label = format!("block {}", grouped(*block));
+        let (place, row) = line.split_at(column(line));
+        assert_eq!((place.trim_start(), row.trim_start()), (&*label, &**cells));
+        // All rows begin in one column.
+        assert_eq!(column(line), column(drawn[0]), "{line}");
+    }
+    after
 }
 
 #[test]
@@ -85,7 +95,7 @@ fn each_kind_of_block_has_its_letter_and_a_record_its_joint() {
     let log = mixed_log();
     let found = Found::in_log(&log);
     // Whole, changed, and a record from block 3 into block 4, in which the tail is torn.
-    assert_eq!(rows(&found, 1), [("0".into(), "W D W-T".into())]);
+    assert_eq!(rows(&found, 1), [(1, "R D R-T".into())]);
     let ran = fed(tool().args(["map", "-"]), &log);
     assert_eq!(ran.status, Some(1));
     check(&ran.lines(), &found, 1);
@@ -102,7 +112,7 @@ fn each_kind_of_block_has_its_letter_and_a_record_its_joint() {
     both.extend(reference::log::fragment(4, b"orphan"));
     both.extend([9; 3]);
     let found = Found::in_log(&both);
-    assert_eq!(rows(&found, 1), [("0".into(), "X".into())]);
+    assert_eq!(rows(&found, 1), [(1, "X".into())]);
     check_log(&both, 1);
 }
 
@@ -143,9 +153,9 @@ fn a_joint_stands_where_a_record_runs_over_a_block_and_nowhere_else() {
         check_log(&written(&records), 1);
     }
     let drawn = |log: &[u8]| rows(&Found::in_log(log), 1)[0].1.clone();
-    assert_eq!(drawn(&written(&[vec![5; 32_761], vec![5; 3]])), "W W");
-    assert_eq!(drawn(&written(&[vec![5; 32_754], vec![5; 1]])), "W-W");
-    assert_eq!(drawn(&written(&[vec![5; 32_755], vec![5; 1]])), "W W");
+    assert_eq!(drawn(&written(&[vec![5; 32_761], vec![5; 3]])), "R R");
+    assert_eq!(drawn(&written(&[vec![5; 32_754], vec![5; 1]])), "R-R");
+    assert_eq!(drawn(&written(&[vec![5; 32_755], vec![5; 1]])), "R R");
 }
 
 #[test]
@@ -184,12 +194,78 @@ fn the_longest_log_fits_16_rows() {
     assert_eq!(ran.lines().len(), 1 + 16 + 4);
 }
 
+/// Sixty columns have room for 24 cells a row, eighty for 32, and so on; the legend fits too.
+#[test]
+fn the_picture_is_as_wide_as_the_terminal() {
+    let mut log = written(&vec![vec![3; 80_000]; 60]);
+    log[5_000_000 / 2] ^= 1;
+    log.truncate(log.len() - 1);
+    let found = Found::in_log(&log);
+    assert!(found.blocks() > 100 && found.torn.is_some());
+    for (columns, row) in [(60, 24), (80, 32), (132, 56), (400, 64), (26, 7), (8, 1)] {
+        // As on a terminal that tells its width; as a terminal does not, but COLUMNS does; and as
+        // COLUMNS does for a pipe.
+        let mut by_name = tool();
+        by_name
+            .args(["map", "-"])
+            .env("COLUMNS", columns.to_string());
+        let piped = fed(&mut by_name, &log).text().to_string();
+        let mut shown = vec![piped];
+        if is_there() {
+            let mut plain = tool();
+            plain.args(["map", "--color", "never", "-"]);
+            shown.push(ran_on((columns, 24), &mut plain, &log).1);
+            plain.env("COLUMNS", columns.to_string());
+            shown.push(ran_on((0, 0), &mut plain, &log).1);
+            // What the terminal tells goes first.
+            plain.env("COLUMNS", "79");
+            shown.push(ran_on((columns, 24), &mut plain, &log).1);
+        }
+        for text in shown {
+            let lines: Vec<&str> = text.lines().collect();
+            let first = lines.iter().position(|line| line.contains("block 1  "));
+            let lines = &lines[first.expect("a row")..];
+            let blocks = found.blocks().div_ceil(16 * row);
+            let after = check_rows(lines, &rows_of(&found, blocks, row));
+            let legend = after.join(" ");
+            for said in [
+                "R readable",
+                "D in doubt",
+                "T torn tail",
+                "X in doubt and torn",
+            ] {
+                assert!(legend.contains(said) || columns < 20, "{legend}");
+            }
+        }
+    }
+}
+
+#[test]
+fn every_line_of_a_picture_fits_the_terminal() {
+    if !is_there() {
+        return;
+    }
+    for log in [mixed_log(), longest_log()] {
+        for (columns, words) in [
+            (60, &["map", "-"][..]),
+            (80, &["map", "-"]),
+            (60, &["map", "--color=always", "-"]),
+            (40, &["map", "-"]),
+        ] {
+            let (_, text) = ran_on((columns, 24), tool().args(words), &log);
+            for line in without_codes(&text).lines() {
+                assert!(line.chars().count() <= usize::from(columns), "{line}");
+            }
+        }
+    }
+}
+
 #[test]
 fn an_empty_journal_has_no_cells() {
     let ran = run!("map", "-");
     let lines = ran.done().lines();
     assert_eq!(lines.len(), 1);
-    assert!(lines[0].contains("whole") && lines[0].contains("empty"));
+    assert!(lines[0].contains("no damage found") && lines[0].contains("empty"));
     assert_eq!(numbers(lines[0]), []);
 }
 
@@ -212,7 +288,7 @@ fn colours_change_no_letter_and_come_only_if_asked_for() {
         assert_eq!(ran.status, plain.status);
         assert_eq!(without_codes(ran.text()), plain.text());
         // A colour of its own for each letter, and none left on.
-        for letter in ["W", "D", "T", "X"] {
+        for letter in ["R", "D", "T", "X"] {
             assert!(
                 ran.text().contains(&format!("m{letter}\x1b[0m")),
                 "{letter}"

@@ -136,7 +136,10 @@ fn closed_complaints_do_no_harm_and_the_status_stays() {
             "sh",
             env!("CARGO_BIN_EXE_mellansko"),
         ]);
-        shell.args(&words).stdin(Stdio::null());
+        shell
+            .args(&words)
+            .stdin(Stdio::null())
+            .env("MELLANSKO", "mellansko");
         let closed = ran(&mut shell);
         assert_eq!(closed.status, Some(status), "{words:?}");
         assert_eq!(closed.out, unread.out);

@@ -6,7 +6,7 @@ mod common;
 use common::damage::mixed_log;
 use common::expect::{without_codes, written};
 use common::files::{release, Folder};
-use common::terminal::{is_there, shown, terminal, Showing};
+use common::terminal::{is_there, shown, terminal, Showing, ERASE};
 use common::{fed, finish, tool, Ran};
 use std::fs::{self, File};
 use std::io::Write;
@@ -28,9 +28,9 @@ fn until_shown(mut to: impl Write, bytes: &[u8], showing: &Showing) {
     let (most, mut rest) = bytes.split_at(bytes.len() / 8 * 7);
     slowly(&mut to, most);
     while !showing.has_begun() {
-        let (next, behind) = rest.split_at(1);
+        let (next, after) = rest.split_at(1);
         slowly(&mut to, next);
-        rest = behind;
+        rest = after;
     }
     to.write_all(rest).expect("it is read");
 }
@@ -49,8 +49,6 @@ fn on_slow_input(words: &[&str], log: &[u8]) -> (Ran, String) {
     let ran = finish(child, Vec::new());
     (ran, showing.all())
 }
-
-const ERASE: &str = "\r\x1b[K";
 
 #[test]
 fn slow_reading_shows_how_far_it_is_and_leaves_nothing_behind() {
@@ -72,16 +70,21 @@ fn slow_reading_shows_how_far_it_is_and_leaves_nothing_behind() {
             "{words:?}"
         );
         let lines: Vec<&str> = showing.split(ERASE).collect();
-        // Nothing before the first, and nothing left behind the last but what it has to say.
-        let [before, lines @ .., behind] = &lines[..] else {
+        // Nothing before the first, and nothing left after the last but what it has to say.
+        let [before, lines @ .., after] = &lines[..] else {
             panic!("{showing:?}");
         };
-        let said = plain.err.replace('\n', "\r\n");
-        assert_eq!((*before, *behind), ("", said.as_str()), "{showing:?}");
+        // That is wrapped.
+        let said: Vec<&str> = after.split_whitespace().collect();
+        let plainly: Vec<&str> = plain.err.split_whitespace().collect();
+        assert_eq!((*before, said), ("", plainly), "{showing:?}");
         assert!(!lines.is_empty(), "{words:?} shows nothing");
         for line in lines {
             assert!(line.starts_with("standard input: "), "{line:?}");
-            assert!(!line.contains('\n') && line.len() < 80, "{line:?}");
+            assert!(
+                !line.contains(char::is_control) && line.len() < 60,
+                "{line:?}"
+            );
         }
     }
 }
@@ -119,7 +122,7 @@ fn a_long_name_keeps_progress_on_one_row() {
     let showing = showing.all();
     assert!(showing.contains("land-: "), "{showing:?}");
     for line in showing.split(ERASE) {
-        assert!(line.chars().count() < 80, "{line:?}");
+        assert!(line.chars().count() < 60, "{line:?}");
     }
 }
 
@@ -154,23 +157,20 @@ fn a_terminal_gets_colours_unless_they_are_unwanted() {
         return;
     }
     let log = mixed_log();
-    let plain = fed(tool().args(["map", "-"]), &log);
     let map = || {
         let mut command = tool();
         command.arg("map").env("TERM", "xterm");
         command
     };
+    let plain = drawn(map().args(["--color", "never"]), &log);
+    assert!(!plain.contains('\x1b'), "{plain}");
     for command in [&mut map(), map().args(["--color", "auto"])] {
         let colourful = drawn(command, &log);
         assert!(colourful.contains("\x1b["), "{colourful}");
-        assert_eq!(without_codes(&colourful), plain.text());
+        assert_eq!(without_codes(&colourful), plain);
     }
-    for command in [
-        map().env("NO_COLOR", "1"),
-        map().env("TERM", "dumb"),
-        map().args(["--color", "never"]),
-    ] {
-        assert_eq!(drawn(command, &log), plain.text());
+    for command in [map().env("NO_COLOR", "1"), map().env("TERM", "dumb")] {
+        assert_eq!(drawn(command, &log), plain);
     }
 }
 

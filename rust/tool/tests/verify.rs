@@ -1,60 +1,78 @@
-//! `mellansko verify`: the answer to whether journals are whole.
+//! `mellansko verify`: what damage journals show.
 
 #[macro_use]
 mod common;
 
 use common::damage::{long_logs, mixed_log, small_logs};
-use common::expect::{block_numbers, count, example, grouped, numbers, written, Found};
+use common::expect::{count, example, grouped, numbers, written, Found};
 use common::files::Folder;
 use common::random::Random;
+use common::report::check;
 use common::{fed, ran, tool};
 use reference::log::{fragment, FIRST, MIDDLE};
 use std::collections::BTreeSet;
 use std::process::Command;
 
 #[test]
-fn a_whole_log_is_called_whole_with_its_records_bytes_and_blocks() {
-    let folder = Folder::new("verify-whole");
-    for records in [vec![vec![7; 5]], vec![Vec::new(); 3], vec![vec![1; 40_000]]] {
+fn where_no_damage_is_found_the_records_and_the_last_one_are_named() {
+    let folder = Folder::new("verify-sound");
+    for records in [
+        vec![vec![7; 5]],
+        vec![Vec::new(); 3],
+        vec![vec![1; 40_000]],
+        vec![vec![5; 10]; 30_000],
+    ] {
         let log = written(&records);
         let ran = run!("verify", folder.file("log", &log));
         let first = ran.done().lines()[0];
-        assert!(first.contains(": whole: "), "{first}");
+        assert!(first.contains(": no damage found in its "), "{first}");
+        let found = Found::in_log(&log);
+        let (last, _) = &found.records[records.len() - 1];
         for figure in [
             count(records.len(), "record"),
             count(log.len(), "byte"),
             count(log.len().div_ceil(32_768), "block"),
+            format!("bytes {} to {}", grouped(last.start), grouped(last.end)),
         ] {
             assert!(first.contains(&figure), "{figure:?} is not in: {first}");
         }
-        assert_eq!(ran.lines().len(), 1);
+        // And then, that they are to be compared.
+        assert!(ran.text().contains("\nCompare that with what you expect: "));
     }
 }
 
 #[test]
-fn the_example_is_whole_and_cut_as_document_01_says() {
+fn the_example_is_cut_as_document_01_says() {
     let log = example();
-    let whole = fed(tool().args(["verify", "-"]), &log);
-    let line = "standard input: whole: 3 records, 106,311 bytes in 4 blocks, nothing in doubt.\n";
-    assert_eq!(whole.done().text(), line);
-
-    // The third record, from 98,304 on, is cut off by a byte.
+    let sound = fed(tool().args(["verify", "-"]), &log);
+    assert_eq!(
+        sound.done().lines()[0],
+        "standard input: no damage found in its 106 311 bytes, 4 blocks. \
+         It has 3 records; the last is record 3, bytes 98 304 to 106 311."
+    );
+    // The third record, from 98 304 on, is cut off by a byte.
     let torn = fed(tool().args(["verify", "-"]), &log[..106_310]);
     assert_eq!(torn.status, Some(1));
     let lines = torn.lines();
     assert_eq!(
         lines[0],
-        "standard input: NOT WHOLE: 8,006 of 106,310 bytes in doubt, in block 4 of 4; \
-         the tail is torn from byte 98,304 on. 2 records can be read."
+        "standard input: IN DOUBT: 8006 of its 106 310 bytes, in block 4 of 4; \
+         its end is torn from byte 98 304 on. \
+         It has 2 readable records; the last is record 2, bytes 1007 to 98 298."
     );
-    assert!(lines[1].contains("bytes 98,304 to 106,310, 8,006 bytes, block 4: torn"));
+    assert_eq!(
+        lines[1],
+        "Gap after the last record, number 2, which ends at byte 98 298: 8006 bytes, in block 4"
+    );
+    assert!(lines[2].starts_with("  - bytes 98 304 to 106 310 (8006 bytes, block 4): torn"));
 
-    // Inside the trailer nothing is in doubt, and a record is gone: that number alone tells.
+    // Inside the trailer nothing shows that a record is gone: the number and the place alone tell.
     let short = fed(tool().args(["verify", "-"]), &log[..98_300]);
-    assert!(short
-        .done()
-        .text()
-        .contains("whole: 2 records, 98,300 bytes"));
+    assert_eq!(
+        short.done().lines()[0],
+        "standard input: no damage found in its 98 300 bytes, 3 blocks. \
+         It has 2 records; the last is record 2, bytes 1007 to 98 298."
+    );
 }
 
 #[test]
@@ -66,23 +84,28 @@ fn the_example_with_a_byte_changed_is_as_document_01_says() {
     let lines = changed.lines();
     assert_eq!(
         lines[0],
-        "standard input: NOT WHOLE: 97,291 of 106,311 bytes in doubt, in blocks 1 to 3 of 4. \
-         2 records can be read."
+        "standard input: IN DOUBT: 97 291 of its 106 311 bytes, in blocks 1 to 3 of 4. \
+         It has 2 readable records; the last is record 2, bytes 98 304 to 106 311."
+    );
+    assert_eq!(
+        lines[1],
+        "Gap between record 1, which ends at byte 1007, and record 2, which starts at byte 98 304: \
+         97 291 bytes, in blocks 1 to 3"
     );
     for (line, range, reason) in [
         (
-            lines[1],
-            "bytes 1,007 to 32,768, 31,761 bytes, block 1: ",
+            lines[2],
+            "bytes 1007 to 32 768 (31 761 bytes, block 1): ",
             "reason 4, interrupted",
         ),
         (
-            lines[2],
-            "bytes 32,768 to 65,536, 32,768 bytes, block 2: ",
+            lines[3],
+            "bytes 32 768 to 65 536 (32 768 bytes, block 2): ",
             "reason 3, checksum",
         ),
         (
-            lines[3],
-            "bytes 65,536 to 98,298, 32,762 bytes, block 3: ",
+            lines[4],
+            "bytes 65 536 to 98 298 (32 762 bytes, block 3): ",
             "reason 5, orphan",
         ),
     ] {
@@ -97,18 +120,25 @@ fn damage_and_a_torn_tail_are_both_told() {
     assert!(!found.skips.is_empty() && found.torn.is_some());
     let ran = fed(tool().args(["verify", "-"]), &log);
     assert_eq!((ran.status, ran.err.as_str()), (Some(1), ""));
-    check_file("standard input", &log, &ran.lines());
+    check("standard input", &log, &ran.lines());
 }
 
 #[test]
-fn blocks_apart_are_listed_one_by_one() {
-    let mut log = written(&vec![vec![9; 32_761]; 9]);
+fn a_few_blocks_apart_are_named_and_many_counted() {
+    let mut log = written(&vec![vec![9; 32_761]; 12]);
     for block in [1, 4, 5, 6, 8] {
         log[block * 32_768 + 100] ^= 1;
     }
     let ran = fed(tool().args(["verify", "-"]), &log);
     let first = ran.lines()[0];
-    assert!(first.contains("in blocks 2, 5 to 7 and 9 of 9"), "{first}");
+    assert!(
+        first.contains("in blocks 2 and 5 to 7 and 9 of 12"),
+        "{first}"
+    );
+    log[10 * 32_768 + 100] ^= 1;
+    let ran = fed(tool().args(["verify", "-"]), &log);
+    let first = ran.lines()[0];
+    assert!(first.contains("in 6 of its 12 blocks"), "{first}");
 }
 
 /// All at once, so that it is quick.
@@ -125,21 +155,30 @@ fn of_many_damaged_logs_each_doubt_is_listed_and_nothing_else() {
     for (name, log) in names.iter().zip(&logs) {
         folder.file(name, log);
     }
-    let ran = ran(tool().arg("verify").args(&names).current_dir(&*folder));
+    let mut command = tool();
+    command.args(["verify", "--all"]).args(&names);
+    let ran = ran(command.current_dir(&*folder));
     assert_eq!((ran.status, ran.err.as_str()), (Some(1), ""));
     let lines = ran.lines();
-    let whole = logs.iter().filter(|log| Found::in_log(log).is_whole());
-    let whole = whole.count();
-    assert!(lines[0].starts_with("NOT ALL WHOLE"), "{}", lines[0]);
-    let expected = [logs.len(), whole, logs.len() - whole, 0];
+    let sound = logs.iter().filter(|log| Found::in_log(log).is_whole());
+    let sound = sound.count();
+    assert!(lines[0].starts_with("IN DOUBT: "), "{}", lines[0]);
+    let expected = [logs.len(), logs.len() - sound, 0, sound];
     assert_eq!(numbers(lines[0]), expected, "{}", lines[0]);
 
     let mut rest = &lines[1..];
     for (name, log) in names.iter().zip(&logs) {
-        rest = check_file(name, log, rest);
+        rest = check(name, log, rest);
     }
-    assert_eq!(rest.len(), 2, "only advice is left: {rest:?}");
-    assert!(rest[0].starts_with("Keep a journal in doubt as it is"));
+    // It is long, so the answer comes again, and only advice is left.
+    assert_eq!(rest[..2], ["", lines[0]]);
+    assert!(rest.len() < 20, "{rest:?}");
+    let advice = rest[2..].join(" ");
+    assert!(
+        advice.contains("keep a journal in doubt as it is"),
+        "{advice}"
+    );
+    assert!(advice.contains("compare the records with what you expect"));
 }
 
 /// That the logs have every kind of doubt in them.
@@ -149,110 +188,34 @@ fn check_reasons(logs: &[Vec<u8>]) {
     let reasons: BTreeSet<u8> = skips.map(|&(_, reason)| reason).collect();
     assert_eq!(reasons, BTreeSet::from([1, 2, 3, 4, 5, 6]));
     assert!(found.iter().any(|found| found.torn.is_some()));
-    assert!(found.iter().filter(|found| found.is_whole()).count() > 5);
-}
-
-/// Holds the lines of a file, which come first, to the reference; gives the lines behind them.
-fn check_file<'a>(name: &str, log: &[u8], lines: &'a [&'a str]) -> &'a [&'a str] {
-    let found = Found::in_log(log);
-    let ranges = found.doubtful();
-    let (own, mut rest) = lines.split_at(1 + ranges.len());
-    let verdict = own[0].strip_prefix(name).expect(name);
-    if found.is_whole() {
-        let expected = match log.len() {
-            0 => vec![],
-            length => vec![found.records.len(), length, found.blocks()],
-        };
-        assert!(verdict.starts_with(": whole"), "{log:x?}: {verdict}");
-        assert_eq!(numbers(verdict), expected, "{verdict}");
-        return rest;
-    }
-    assert!(verdict.starts_with(": NOT WHOLE: "), "{log:x?}: {verdict}");
-    assert_eq!(numbers(verdict), figures(&found), "{log:x?}: {verdict}");
-    let said = own.concat().replacen("NOT WHOLE", "", 1).to_lowercase();
-    assert!(!said.contains("whole") && !said.contains("ok"), "{own:?}");
-    for (line, (range, reason)) in own[1..].iter().zip(&found.skips) {
-        let mut expected = vec![range.start, range.end, range.len()];
-        expected.extend(block_numbers(range));
-        expected.push(usize::from(*reason));
-        assert_eq!(numbers(line), expected, "{log:x?}: {line}");
-        let name = NAMES[usize::from(*reason) - 1];
-        assert!(
-            line.ends_with(&format!("(reason {reason}, {name})")),
-            "{line}"
-        );
-    }
-    if let Some(range) = found.torn_tail() {
-        let line = own[own.len() - 1];
-        let mut expected = vec![range.start, range.end, range.len()];
-        expected.extend(block_numbers(&range));
-        assert_eq!(numbers(line), expected, "{log:x?}: {line}");
-        assert!(line.contains("torn tail"), "{line}");
-    }
-    if found.records.is_empty() {
-        assert!(rest[0].contains("is it the right file?"), "{}", rest[0]);
-        rest = &rest[1..];
-    }
-    rest
-}
-
-/// As document 01 names the reasons.
-const NAMES: [&str; 7] = [
-    "bad length",
-    "blank",
-    "checksum",
-    "interrupted",
-    "orphan",
-    "unknown type",
-    "over the limit",
-];
-
-/// The figures of a first line that says NOT WHOLE: the bytes in doubt, all bytes, the blocks in
-/// doubt, all blocks, the torn tail's start if there is one, and the records that can be read.
-fn figures(found: &Found) -> Vec<usize> {
-    let doubt = found.doubtful().iter().map(|range| range.len()).sum();
-    let mut doubtful = vec![false; found.blocks() + 1];
-    for range in found.doubtful() {
-        range.for_each(|place| doubtful[place / 32_768] = true);
-    }
-    let mut figures = vec![doubt, found.length];
-    for block in 0..found.blocks() {
-        let before = block > 0 && doubtful[block - 1];
-        let (this, behind) = (doubtful[block], doubtful[block + 1]);
-        // The first block of a run, and the last.
-        if this && (!before || !behind) {
-            figures.push(block + 1);
-        }
-    }
-    figures.push(found.blocks());
-    figures.extend(found.torn);
-    figures.push(found.records.len());
-    figures
 }
 
 #[test]
-fn the_status_alone_tells_a_damaged_log_from_a_whole_one() {
+fn the_status_alone_tells_a_log_in_doubt_from_others() {
     let mut random = Random::new();
     println!("{random}");
     let folder = Folder::new("verify-status");
-    let (mut whole, mut doubtful) = (Vec::new(), Vec::new());
+    let (mut sound, mut doubtful) = (Vec::new(), Vec::new());
     for (i, log) in small_logs(&mut random).into_iter().enumerate() {
         let file = folder.file(format!("{i}"), &log);
         let ran = run!("verify", &file);
         let status = Found::in_log(&log).status();
         assert_eq!(ran.status, Some(status), "{log:x?}: {}", ran.text());
         match status {
-            0 => whole.push(file),
+            0 => sound.push(file),
             _ => doubtful.push(file),
         }
     }
-    let all_whole = ran(tool().arg("verify").args(&whole));
-    let expected = format!("All {} journals are whole.", grouped(whole.len()));
-    assert_eq!(all_whole.done().lines()[0], expected);
-    // One among whole ones is enough, wherever it stands.
+    let all_sound = ran(tool().arg("verify").args(&sound));
+    let expected = format!(
+        "No damage found in any of {} journals.",
+        grouped(sound.len())
+    );
+    assert_eq!(all_sound.done().lines()[0], expected);
+    // One among others is enough, wherever it stands.
     for file in doubtful.iter().step_by(20) {
-        let mut files = whole.clone();
-        files.insert(random.below(whole.len() + 1), file.clone());
+        let mut files = sound.clone();
+        files.insert(random.below(sound.len() + 1), file.clone());
         assert_eq!(ran(tool().arg("verify").args(&files)).status, Some(1));
     }
 }
@@ -261,13 +224,16 @@ fn the_status_alone_tells_a_damaged_log_from_a_whole_one() {
 #[test]
 fn a_record_that_is_too_long_is_named_with_the_figure() {
     let first = fragment(FIRST, &[1; 32_761]);
-    let log = [first, fragment(MIDDLE, &[1; 32_761]).repeat(8)].concat();
+    let long = [first, fragment(MIDDLE, &[1; 32_761]).repeat(8)].concat();
+    let log = [written(&[vec![2; 32_761]]), long].concat();
     let ran = fed(tool().args(["verify", "-"]), &log);
     let lines = ran.lines();
-    assert!(lines[0].contains("NOT WHOLE"), "{}", lines[0]);
+    assert!(lines[0].contains("IN DOUBT"), "{}", lines[0]);
     let why =
-        "a record longer than 262,144 bytes, the most that one may have (reason 7, over the limit)";
-    assert!(lines[1].ends_with(why), "{}", lines[1]);
+        "a record longer than 262 144 bytes, the most that one may have (reason 7, over the limit)";
+    assert!(ran.text().contains(why), "{}", ran.text());
+    let advice = lines.join(" ");
+    assert!(advice.contains("A record of more than 262 144 bytes may be sound"));
 }
 
 /// With both on one pipe, as on a terminal.
@@ -280,28 +246,32 @@ fn the_first_line_answers_before_anything_is_complained_of() {
     command.arg(env!("CARGO_BIN_EXE_mellansko"));
     let ran = ran(command.current_dir(&*folder));
     let lines = ran.lines();
-    assert!(lines[0].starts_with("NOT ALL WHOLE"), "{lines:?}");
+    assert!(lines[0].starts_with("NOT ALL READ: "), "{lines:?}");
     assert!(
-        lines[1].contains("missing") && lines[2].starts_with("sound: whole"),
+        lines[1].contains("missing") && lines[2].starts_with("sound: no damage found"),
         "{lines:?}"
     );
 }
 
 #[test]
-fn what_is_not_read_is_neither_whole_nor_forgotten() {
+fn what_is_not_read_is_neither_sound_nor_forgotten() {
     let folder = Folder::new("verify-unread");
-    let whole = folder.file("sound", &written(&[b"1"]));
+    let sound = folder.file("sound", &written(&[b"1"]));
     let torn = folder.file("torn", b"torn");
     let missing = folder.join("missing");
-    for (files, figures) in [
-        (vec![&whole, &missing], [2, 1, 0, 1]),
-        (vec![&missing, &torn], [2, 0, 1, 1]),
-        (vec![&missing, &torn, &whole, &whole], [4, 2, 1, 1]),
+    for (files, begins, figures) in [
+        (vec![&sound, &missing], "NOT ALL READ: ", [2, 0, 1, 1]),
+        (vec![&missing, &torn], "IN DOUBT: ", [2, 1, 1, 0]),
+        (
+            vec![&missing, &torn, &sound, &sound],
+            "IN DOUBT: ",
+            [4, 1, 1, 2],
+        ),
     ] {
         let ran = ran(tool().arg("verify").args(files));
         ran.complained(2, &["missing", "no such file"]);
         let first = ran.lines()[0];
-        assert!(first.starts_with("NOT ALL WHOLE"), "{first}");
+        assert!(first.starts_with(begins), "{first}");
         assert_eq!(numbers(first), figures, "{first}");
     }
     run!("verify", &missing).failed(2, &["missing", "no such file"]);

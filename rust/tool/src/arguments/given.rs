@@ -1,10 +1,14 @@
-//! The words that were given behind a command.
+//! The words that were given after a command.
 
 use super::Command;
-use crate::help;
+use crate::shell::me;
 use crate::trouble::Trouble;
-use crate::words::{me, shown};
+use crate::words::shown;
+use crate::wrap::TIED;
 use std::ffi::{OsStr, OsString};
+
+/// The options that take no value.
+const SWITCHES: [&str; 2] = ["--new", "--all"];
 
 pub struct Given {
     command: &'static str,
@@ -15,7 +19,7 @@ pub struct Given {
 }
 
 impl Given {
-    /// Sets the options that the command has apart from the other words. Behind `--` all are such.
+    /// Sets the options that the command has apart from the other words. After `--` all are such.
     pub fn of(
         command: &'static str,
         help: &'static str,
@@ -59,12 +63,14 @@ impl Given {
             return Err(self.wrong(&format!("there is no option {}", shown(OsStr::new(name)))));
         };
         let value = match (name, value) {
-            ("--new", None) => OsString::new(),
-            ("--new", Some(_)) => return Err(self.wrong("--new takes no value")),
+            (name, None) if SWITCHES.contains(&name) => OsString::new(),
+            (name, Some(_)) if SWITCHES.contains(&name) => {
+                return Err(self.wrong(&format!("{name} takes no value")));
+            }
             (_, Some(value)) => value,
             (_, None) => match rest.next() {
                 Some(value) => value,
-                None => return Err(self.wrong(&format!("{name} wants a value behind it"))),
+                None => return Err(self.wrong(&format!("{name} wants a value after it"))),
             },
         };
         if self.value(name).is_some() {
@@ -76,7 +82,7 @@ impl Given {
 
     pub fn command(self, parse: fn(Given) -> Result<Command, Trouble>) -> Result<Command, Trouble> {
         if self.wants_help {
-            return Ok(Command::Say(help::with_figures(self.help)));
+            return Ok(Command::Help(self.help));
         }
         parse(self)
     }
@@ -110,6 +116,7 @@ impl Given {
 
     pub fn wrong(&self, what: &str) -> Trouble {
         let command = self.command;
-        Trouble::Message(format!("{command}: {what}. See {} {command} --help", me()))
+        let help = format!("{}{TIED}{command}{TIED}--help", me());
+        Trouble::Message(format!("{command}: {what}. See {help}"))
     }
 }

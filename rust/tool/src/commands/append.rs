@@ -1,18 +1,22 @@
-//! `mellansko append`: a record from standard input, at the clean end of a journal.
+//! `mellansko append`: a record from standard input, at the end of a journal in which nothing is in
+//! doubt.
 //!
 //! What the file held is never written to: it only grows, and a write that fails is taken back.
 
 mod file;
 
 use crate::journal::{self, why_refused};
+use crate::page::Page;
 use crate::progress::Progress;
+use crate::screen::Screen;
+use crate::shell::typed;
 use crate::survey::Survey;
 use crate::trouble::{note, Trouble};
-use crate::words::{bytes, grouped, me, shown};
+use crate::words::{bytes, from_to, grouped, shown};
 use crate::Status;
 use mellansko::{Next, Record, Refusal, LONGEST_LOG, LONGEST_RECORD};
-use std::ffi::OsString;
-use std::io::{self, IsTerminal, Write};
+use std::ffi::{OsStr, OsString};
+use std::io::{self, Write};
 
 pub fn append(path: &OsString, new: bool) -> Result<Status, Trouble> {
     // Before the record is read, so that a wrong name shows before it is typed; and again after it,
@@ -25,44 +29,52 @@ pub fn append(path: &OsString, new: bool) -> Result<Status, Trouble> {
         None => Vec::new(),
     };
     let mut progress = Progress::new();
-    let refused = |refusal| file::nothing_appended(path, &why_refused(refusal));
+    let refused = |refusal| file::nothing_appended(path, &why_refused(refusal, path));
     let survey = Survey::of(&log, path, &mut progress).map_err(refused)?;
     drop(progress);
-    if survey.status() != Status::Whole {
-        note(&format!(
-            "{}: nothing was appended: it is {}. Behind what is in doubt a record might not be found again. {}; \
-             to see more: {} verify FILE",
-            shown(path),
-            survey.verdict(),
-            journal::begin_another(),
-            me()
-        ));
+    if survey.status() != Status::Done {
+        tell_doubt(path, &survey);
         return Ok(Status::Doubt);
     }
     let used = log.len();
     let written = write(&mut log, &record).map_err(refused)?;
     file::store(old, path, used, &log[used..written.end])?;
     say(&format!(
-        "{}: record {} appended, {}, at {} to {}.",
+        "{}: record {} appended, of {}, as {}.",
         shown(path),
-        grouped(survey.records + 1),
+        grouped(survey.records() + 1),
         bytes(record.len()),
-        grouped(written.start),
-        grouped(written.end)
+        from_to(written.start, written.end)
     ));
-    Ok(Status::Whole)
+    Ok(Status::Done)
+}
+
+fn tell_doubt(path: &OsStr, survey: &Survey) {
+    note(&format!(
+        "{}: nothing was appended: {}. After what is in doubt, a record might not be found again.",
+        shown(path),
+        survey.verdict()
+    ));
+    note(&format!(
+        "to begin another journal: {}",
+        journal::begin_another(path)
+    ));
+    note(&format!(
+        "to see what is in doubt: {}",
+        typed("verify", path, "")
+    ));
 }
 
 /// The record is in the file by now: that nobody hears of it does not change that.
 fn say(line: &str) {
-    let _ = io::stdout().write_all(format!("{line}\n").as_bytes());
+    let mut page = Page::new(Screen::of(&io::stdout()));
+    page.entry(line);
+    let _ = io::stdout().write_all(format!("{}\n", page.rows.join("\n")).as_bytes());
 }
 
 fn record_from_input() -> Result<Vec<u8>, Trouble> {
-    if io::stdin().is_terminal() {
-        note("type the record, and end it with Ctrl-D on a line of its own");
-    }
-    journal::read_input(LONGEST_RECORD, &mut Progress::new())
+    let prompt = "type the record, and end it with Ctrl-D on a line of its own";
+    journal::read_input(prompt, LONGEST_RECORD, &mut Progress::new())
 }
 
 /// Appends the record to the log in memory, and gives where it stands.

@@ -1,26 +1,33 @@
 //! `mellansko cat`: the bytes of one record.
 
+mod harmless;
+
 use crate::journal::Source;
 use crate::output::Output;
 use crate::progress::Progress;
+use crate::shell::typed;
 use crate::trouble::{note, Trouble};
-use crate::words::{bytes, count, grouped, shown};
+use crate::words::{bytes, count, grouped, records, shown};
+use crate::wrap::TIED;
 use crate::Status;
+use harmless::harmless;
 use mellansko::{Answer, Reading, Tail};
+use std::io::{self, IsTerminal};
 
 /// The records that can be read are numbered from 1 on.
 pub fn cat(source: &Source, number: usize, output: &mut Output) -> Result<Status, Trouble> {
     let log = source.read(&mut Progress::new())?;
     let mut reading = Reading::of(&log).map_err(|refusal| source.refused(refusal))?;
-    let mut records = 0;
-    // The bytes in doubt, before the record and behind it.
-    let (mut before, mut behind) = (0, 0);
+    let mut found = 0;
+    // The bytes in doubt, before the record and after it.
+    let (mut before, mut after) = (0, 0);
+    let mut changed = false;
     while let Some(answer) = reading.advance() {
         let doubt = match answer {
             Answer::Record { bytes: record, .. } => {
-                records += 1;
-                if records == number {
-                    output.write(&record)?;
+                found += 1;
+                if found == number {
+                    changed = write(&record, output)?;
                 }
                 0
             }
@@ -28,48 +35,80 @@ pub fn cat(source: &Source, number: usize, output: &mut Output) -> Result<Status
             Answer::End(Tail::Clean) => 0,
             Answer::End(Tail::Torn(start)) => log.len() - start,
         };
-        *(if records < number {
+        *(if found < number {
             &mut before
         } else {
-            &mut behind
+            &mut after
         }) += doubt;
     }
-    if records < number {
-        return Err(missing(source, number, records, before));
-    }
-    if before + behind == 0 {
-        return Ok(Status::Whole);
+    if found < number {
+        return Err(missing(source, number, found, before));
     }
     output.flush()?;
-    warn(source, number, before, behind);
+    if changed {
+        tell_changed(source, number);
+    }
+    if before + after == 0 {
+        return Ok(Status::Done);
+    }
+    warn(source, number, before, after);
     Ok(Status::Doubt)
 }
 
-fn missing(source: &Source, number: usize, records: usize, doubt: usize) -> Trouble {
-    let there = count(records, "record", "records");
+/// Writes the record; to a terminal nothing that it would obey, and its last line ended. Says
+/// whether a byte is shown as another.
+fn write(record: &[u8], output: &mut Output) -> Result<bool, Trouble> {
+    if !io::stdout().is_terminal() {
+        output.write(record)?;
+        return Ok(false);
+    }
+    let text = harmless(record);
+    output.write(text.as_bytes())?;
+    if !text.is_empty() && !text.ends_with('\n') {
+        output.write(b"\n")?;
+    }
+    Ok(text.as_bytes() != record)
+}
+
+fn tell_changed(source: &Source, number: usize) {
+    let cat = typed("cat", source.word(), &number.to_string());
+    note(&format!(
+        "bytes that are no text, or that a terminal would obey, are shown by their numbers, as \\x1b; for the record's \
+         own bytes: {cat}{TIED}>{TIED}record-{number}"
+    ));
+}
+
+fn missing(source: &Source, number: usize, found: usize, doubt: usize) -> Trouble {
     let doubt = match doubt {
         0 => String::new(),
         _ => format!(", and {} in doubt, which may have held more", bytes(doubt)),
     };
-    let number = grouped(number);
+    let (number, there) = (grouped(number), records(found));
     let what = format!("there is no record {number}: {there} can be read{doubt}");
     Trouble::of(source.name(), &what)
 }
 
-/// What is lost before the record may shift its number, and what is lost behind it may be a newer
-/// one that was to take its place.
-fn warn(source: &Source, number: usize, before: usize, behind: usize) {
+/// What is lost before the record may shift its number, and what is lost after it may be a newer one
+/// that was to take its place.
+fn warn(source: &Source, number: usize, before: usize, after: usize) {
     let in_doubt = |doubt| count(doubt, "byte is", "bytes are");
-    let mut what = format!("record {} of those that can be read", grouped(number));
+    let mut what = format!(
+        "this is record {} of those that can be read.",
+        grouped(number)
+    );
     if before > 0 {
         let doubt = in_doubt(before);
         what += &format!(
-            ": before it {doubt} in doubt, so it may be a later one of those that were written"
+            " Before it {doubt} in doubt, so more may have been written before it than its number says."
         );
     }
-    if behind > 0 {
-        let doubt = in_doubt(behind);
-        what += &format!(": behind it {doubt} in doubt, which may have held a newer one");
+    if after > 0 {
+        let doubt = in_doubt(after);
+        what += &format!(" After it {doubt} in doubt, which may have held a newer one.");
     }
-    note(&format!("{}: {what}", shown(source.name())));
+    let verify = typed("verify", source.word(), "");
+    note(&format!(
+        "{}: {what} To see where: {verify}",
+        shown(source.name())
+    ));
 }

@@ -17,7 +17,7 @@ pub fn dump(source: &Source, limit: usize, output: &mut Output) -> Result<Status
             return Ok(Status::Failed);
         }
     };
-    let mut status = Status::Whole;
+    let mut status = Status::Done;
     while let Some(answer) = reading.advance() {
         if matches!(answer, Answer::Skip(_) | Answer::End(Tail::Torn(_))) {
             status = Status::Doubt;

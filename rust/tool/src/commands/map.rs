@@ -1,12 +1,18 @@
 //! `mellansko map`: a picture of a journal, a cell for each block or for several.
 
+mod cell;
+
 use crate::journal::Source;
 use crate::output::Output;
+use crate::page::Page;
 use crate::progress::Progress;
+use crate::screen::Screen;
 use crate::survey::Survey;
 use crate::trouble::Trouble;
-use crate::words::{blocks_of, bytes, grouped, shown};
+use crate::words::{bytes, grouped, shown};
+use crate::wrap::untied;
 use crate::Status;
+use cell::Cell;
 use mellansko::BLOCK;
 use std::env;
 use std::io::{self, IsTerminal};
@@ -20,19 +26,13 @@ pub enum Colour {
     Auto,
 }
 
-/// The cells of a row: with the letter, the joint and the place before them it fits 80 columns.
-const ROW: usize = 32;
-
 /// The rows that a picture has at most, unless the user says how many blocks a cell has.
 const ROWS: usize = 16;
 
-/// What stands in a cell. The letter alone says it, the colour says it again.
-#[derive(Clone, Copy, Default)]
-struct Cell {
-    doubt: bool,
-    torn: bool,
-    runs_on: bool,
-}
+/// The most cells of a row, and what their number is a multiple of, if there is room for as many:
+/// so that the blocks of a row are easily counted.
+const LONGEST_ROW: usize = 64;
+const STEP: usize = 8;
 
 pub fn map(
     source: &Source,
@@ -45,97 +45,50 @@ pub fn map(
     let survey = Survey::of(&log, source.name(), &mut progress)
         .map_err(|refusal| source.refused(refusal))?;
     drop(progress);
-    output.line(&format!("{}: {}.", shown(source.name()), survey.verdict()))?;
-    if survey.length == 0 {
-        return Ok(survey.status());
+    let mut page = Page::new(Screen::of(&io::stdout()));
+    page.entry(&format!("{}: {}.", shown(source.name()), survey.verdict()));
+    if survey.length > 0 {
+        draw(&survey, blocks, colour.is_on(), &mut page);
     }
-    let in_all = survey.length.div_ceil(BLOCK);
-    let blocks = blocks.unwrap_or(in_all.div_ceil(ROW * ROWS)).min(in_all);
-    let cells = cells(&survey, blocks);
-    for (row, part) in cells.chunks(ROW).enumerate() {
-        let place = grouped(row * ROW * blocks * BLOCK);
-        output.line(&format!("{place:>13}  {}", drawn(part, colour.is_on())))?;
-    }
-    legend(blocks, colour.is_on(), output)?;
+    output.page(&page)?;
     Ok(survey.status())
 }
 
-fn cells(survey: &Survey, blocks: usize) -> Vec<Cell> {
-    let mut cells = vec![Cell::default(); survey.runs_on.len().div_ceil(blocks)];
-    let torn = survey.torn.unwrap_or(survey.length);
-    for (start, end) in survey.doubtful() {
-        let (first, last) = blocks_of(start, end);
-        for cell in &mut cells[(first - 1) / blocks..=(last - 1) / blocks] {
-            cell.torn |= start == torn;
-            cell.doubt |= start != torn;
-        }
+/// The picture, and what it means.
+fn draw(survey: &Survey, blocks: Option<usize>, colour: bool, page: &mut Page) {
+    let in_all = survey.blocks();
+    let label = label(in_all).len();
+    let row = row_of(page.screen.picture().saturating_sub(label + 2));
+    let blocks = blocks.unwrap_or(in_all.div_ceil(row * ROWS)).min(in_all);
+    for (part, number) in cell::cells(survey, blocks).chunks(row).zip(0..) {
+        let first = self::label(number * row * blocks + 1);
+        let cells = Cell::row(part, colour);
+        page.rows.push(format!("{first:>label$}  {cells}"));
     }
-    for (cell, group) in cells.iter_mut().zip(survey.runs_on.chunks(blocks)) {
-        cell.runs_on = group.last() == Some(&true);
-    }
-    cells
-}
-
-impl Cell {
-    /// The letter, and the colour by its number in a terminal.
-    fn look(self) -> (char, u8) {
-        match (self.doubt, self.torn) {
-            (false, false) => ('W', 32),
-            (true, false) => ('D', 31),
-            (false, true) => ('T', 33),
-            (true, true) => ('X', 35),
-        }
-    }
-}
-
-fn drawn(cells: &[Cell], colour: bool) -> String {
-    let cells: Vec<String> = cells
-        .iter()
-        .map(|&cell| {
-            let joint = if cell.runs_on { '-' } else { ' ' };
-            format!("{}{joint}", letter(cell, colour))
-        })
-        .collect();
-    cells.concat().trim_end().into()
-}
-
-fn letter(cell: Cell, colour: bool) -> String {
-    let (letter, number) = cell.look();
-    match colour {
-        true => format!("\x1b[1;{number}m{letter}\x1b[0m"),
-        false => letter.into(),
-    }
-}
-
-fn legend(blocks: usize, colour: bool, output: &mut Output) -> Result<(), Trouble> {
-    let shown = |doubt, torn| {
-        let runs_on = false;
-        letter(
-            Cell {
-                doubt,
-                torn,
-                runs_on,
-            },
-            colour,
-        )
+    page.empty_row();
+    page.rows
+        .extend(cell::legend(page.screen.picture(), colour));
+    page.entry("- between two cells: a record runs on from one into the other");
+    let cell = match blocks {
+        1 => "one block".into(),
+        _ => format!("{} blocks", grouped(blocks)),
     };
-    output.line("")?;
-    output.line(&format!(
-        "{} whole   {} in doubt   {} torn tail   {} in doubt and torn",
-        shown(false, false),
-        shown(true, false),
-        shown(false, true),
-        shown(true, true)
-    ))?;
-    output.line("- between two cells: a record runs on from one into the other")?;
-    output.line(&format!(
-        "A cell: {}, {}. Before a row: its first byte's place.",
-        match blocks {
-            1 => "one block".into(),
-            _ => format!("{} blocks", grouped(blocks)),
-        },
-        bytes(blocks * BLOCK)
-    ))
+    let size = bytes(blocks * BLOCK);
+    page.entry(&format!("A cell is {cell}, {size}."));
+}
+
+/// What stands before a row.
+fn label(block: usize) -> String {
+    format!("block {}", untied(&grouped(block)))
+}
+
+/// How many cells fit so many columns, each a letter and a joint.
+fn row_of(columns: usize) -> usize {
+    match columns / 2 {
+        0 => 1,
+        few @ 1..STEP => few,
+        many => (many / STEP * STEP).min(LONGEST_ROW),
+    }
 }
 
 impl Colour {

@@ -1,110 +1,157 @@
-//! `mellansko verify`: whether journals are whole, in plain words.
+//! `mellansko verify`: what damage journals show, in plain words.
+
+mod advice;
+mod list;
 
 use crate::journal::Source;
 use crate::output::Output;
+use crate::page::Page;
 use crate::progress::Progress;
+use crate::screen::Screen;
 use crate::survey::Survey;
 use crate::trouble::Trouble;
-use crate::words::{blocks, blocks_of, bytes, grouped, me, shown};
+use crate::twins::Twins;
+use crate::words::{grouped, shown};
 use crate::Status;
-use mellansko::{Reason, LONGEST_RECORD};
+use std::io;
 
-pub fn verify(sources: &[Source], output: &mut Output) -> Result<Status, Trouble> {
+/// What was found in a journal.
+struct Finding<'a> {
+    source: &'a Source,
+    survey: Survey,
+    twins: Twins,
+    /// Its first bytes.
+    beginning: Vec<u8>,
+}
+
+/// That, or why it could not be read.
+type Found<'a> = Result<Finding<'a>, Trouble>;
+
+pub fn verify(sources: &[Source], all: bool, output: &mut Output) -> Result<Status, Trouble> {
     let mut progress = Progress::new();
-    let findings: Vec<_> = sources
+    let mut findings: Vec<_> = sources
         .iter()
-        .map(|source| survey(source, &mut progress))
+        .map(|source| find(source, &mut progress))
         .collect();
     drop(progress);
-    let status_of = |finding: &Result<Survey, Trouble>| match finding {
-        Ok(survey) => survey.status(),
-        Err(_) => Status::Failed,
-    };
-    let statuses: Vec<Status> = findings.iter().map(status_of).collect();
-    if sources.len() > 1 {
-        output.line(&summary(&statuses))?;
+    let screen = Screen::of(&io::stdout());
+    if findings.len() > 1 {
+        return several(&findings, all, screen, output);
     }
-    for (source, finding) in sources.iter().zip(&findings) {
+    let finding = findings.remove(0)?;
+    output.page(&alone(&finding, all, screen))?;
+    Ok(finding.survey.status())
+}
+
+fn find<'a>(source: &'a Source, progress: &mut Progress) -> Found<'a> {
+    let log = source.read(progress)?;
+    let survey = Survey::of(&log, source.name(), progress);
+    Ok(Finding {
+        source,
+        survey: survey.map_err(|refusal| source.refused(refusal))?,
+        twins: Twins::in_log(&log),
+        beginning: log[..log.len().min(advice::BEGINNING)].to_vec(),
+    })
+}
+
+impl Finding<'_> {
+    fn verdict(&self) -> String {
+        format!("{}: {}.", shown(self.source.name()), self.survey.verdict())
+    }
+
+    /// The answer, and then what it is about.
+    fn report(&self, all: bool, screen: Screen) -> Page {
+        let mut page = Page::new(screen);
+        page.entry(&self.verdict());
+        if let Some(warning) = self.twins.warning() {
+            page.entry(&warning);
+        }
+        list::gaps(self, all, &mut page);
+        page
+    }
+}
+
+/// All that there is to say of a single journal. If the answer is no longer in sight by then, it
+/// comes again after the list.
+fn alone(finding: &Finding, all: bool, screen: Screen) -> Page {
+    let mut page = finding.report(all, screen);
+    let advice = advice::for_one(finding, screen);
+    if page.rows.len() + advice.rows.len() > screen.rows {
+        page.empty_row();
+        page.entry(&finding.verdict());
+    }
+    page.rows.extend(advice.rows);
+    page
+}
+
+/// The journals one by one, with the answer for all of them before, and again after what does not
+/// fit a screen.
+fn several(
+    findings: &[Found],
+    all: bool,
+    screen: Screen,
+    output: &mut Output,
+) -> Result<Status, Trouble> {
+    let mut summary = Page::new(screen);
+    summary.entry(&in_all(findings));
+    output.page(&summary)?;
+    let mut rows = summary.rows.len();
+    for finding in findings {
         match finding {
-            Ok(survey) => report(source, survey, output)?,
+            Ok(finding) => {
+                let report = finding.report(all, screen);
+                rows += report.rows.len();
+                output.page(&report)?;
+            }
             Err(trouble) => {
                 output.flush()?;
                 trouble.tell();
+                rows += 1;
             }
         }
     }
-    if statuses.contains(&Status::Doubt) {
-        output.line(&advice())?;
+    let advice = advice::for_several(findings, screen);
+    if rows + advice.rows.len() > screen.rows {
+        output.line("")?;
+        output.page(&summary)?;
     }
-    Ok(statuses.into_iter().max().unwrap_or(Status::Failed))
+    output.page(&advice)?;
+    Ok(statuses(findings).max().unwrap_or(Status::Failed))
 }
 
-fn advice() -> String {
-    let me = me();
-    format!(
-        "Keep a journal in doubt as it is: what can be read may be out of date, if a newer record was lost.\n\
-         {me} dump FILE lists all that is in it, {me} cat FILE N gives the N-th record that can be read."
-    )
-}
-
-fn survey(source: &Source, progress: &mut Progress) -> Result<Survey, Trouble> {
-    let log = source.read(progress)?;
-    Survey::of(&log, source.name(), progress).map_err(|refusal| source.refused(refusal))
+fn statuses<'a>(findings: &'a [Found]) -> impl Iterator<Item = Status> + 'a {
+    findings.iter().map(|finding| match finding {
+        Ok(finding) => finding.survey.status(),
+        Err(_) => Status::Failed,
+    })
 }
 
 /// The first line, where there are several journals.
-fn summary(statuses: &[Status]) -> String {
-    let of = |wanted| statuses.iter().filter(|&&status| status == wanted).count();
-    let (whole, doubt, failed) = (of(Status::Whole), of(Status::Doubt), of(Status::Failed));
-    if whole == statuses.len() {
-        return format!("All {} journals are whole.", grouped(whole));
-    }
-    format!(
-        "NOT ALL WHOLE: of {} journals {} whole, {} in doubt, {} not read.",
-        grouped(statuses.len()),
-        grouped(whole),
-        grouped(doubt),
-        grouped(failed),
-    )
-}
-
-fn report(source: &Source, survey: &Survey, output: &mut Output) -> Result<(), Trouble> {
-    output.line(&format!("{}: {}.", shown(source.name()), survey.verdict()))?;
-    for skip in &survey.skips {
-        let (number, name) = (skip.reason.number(), skip.reason.name());
-        let range = range(skip.start, skip.end);
-        let why = in_words(skip.reason);
-        output.line(&format!("  {range}: {why} (reason {number}, {name})"))?;
-    }
-    if let Some(start) = survey.torn {
-        output.line(&format!(
-            "  {}: torn tail, the journal ends inside of what starts here",
-            range(start, survey.length)
-        ))?;
-    }
-    if survey.records == 0 && survey.status() == Status::Doubt {
-        output.line("  Nothing in it reads as a record: is it the right file?")?;
-    }
-    Ok(())
-}
-
-/// The limit is the highest there is: whoever asks has named none.
-fn in_words(reason: Reason) -> String {
-    match reason {
-        Reason::OverLimit => format!(
-            "a record longer than {} bytes, the most that one may have",
-            grouped(LONGEST_RECORD)
+fn in_all(findings: &[Found]) -> String {
+    let of = |wanted| {
+        statuses(findings)
+            .filter(|&status| status == wanted)
+            .count()
+    };
+    let (sound, doubt, failed) = (of(Status::Done), of(Status::Doubt), of(Status::Failed));
+    let number = grouped(findings.len());
+    let verdict = match (doubt, failed) {
+        (0, 0) => format!("No damage found in any of {number} journals."),
+        _ => format!(
+            "{}: of {number} journals, {} in doubt, {} not read, {} with no damage found.",
+            if doubt > 0 {
+                "IN DOUBT"
+            } else {
+                "NOT ALL READ"
+            },
+            grouped(doubt),
+            grouped(failed),
+            grouped(sound),
         ),
-        _ => reason.to_string(),
+    };
+    let warned = |finding: &&Found| matches!(finding, Ok(found) if found.twins.warning().is_some());
+    match findings.iter().filter(warned).count() {
+        0 => verdict,
+        warned => format!("{verdict} With a warning: {}.", grouped(warned)),
     }
-}
-
-fn range(start: usize, end: usize) -> String {
-    format!(
-        "bytes {} to {}, {}, {}",
-        grouped(start),
-        grouped(end),
-        bytes(end - start),
-        blocks(&[blocks_of(start, end)])
-    )
 }

@@ -52,6 +52,44 @@ impl Found {
     pub fn blocks(&self) -> usize {
         self.length.div_ceil(BLOCK)
     }
+
+    /// What is in doubt, by the readable record after which it comes.
+    pub fn gaps(&self) -> Vec<Gap> {
+        let reasons = self.skips.iter().map(|(_, reason)| Some(*reason));
+        let reasons = reasons.chain([None]);
+        let mut gaps: Vec<Gap> = Vec::new();
+        for (range, reason) in self.doubtful().into_iter().zip(reasons) {
+            let records = &self.records;
+            let before = records.partition_point(|(record, _)| record.start < range.start);
+            match gaps.last_mut() {
+                Some(gap) if gap.before == before => gap.ranges.push((range, reason)),
+                _ => gaps.push(Gap {
+                    before,
+                    ranges: vec![(range, reason)],
+                }),
+            }
+        }
+        gaps
+    }
+}
+
+/// Ranges in doubt with no readable record between them.
+pub struct Gap {
+    /// How many readable records come before it.
+    pub before: usize,
+    /// The ranges with the reasons, of which a torn tail has none.
+    pub ranges: Vec<(Range<usize>, Option<u8>)>,
+}
+
+impl Gap {
+    pub fn bytes(&self) -> usize {
+        self.ranges.iter().map(|(range, _)| range.len()).sum()
+    }
+
+    /// From its first byte to its last.
+    pub fn span(&self) -> Range<usize> {
+        self.ranges[0].0.start..self.ranges[self.ranges.len() - 1].0.end
+    }
 }
 
 /// The answers from place 0 up to the end, or a refusal.
@@ -124,12 +162,19 @@ pub fn longest_log() -> Vec<u8> {
     log
 }
 
-/// A number with commas.
+/// A number with its thousands set apart by spaces, from five digits on.
 pub fn grouped(number: usize) -> String {
-    if number < 1_000 {
-        return number.to_string();
+    match number {
+        0..10_000 => number.to_string(),
+        _ => in_thousands(number),
     }
-    format!("{},{:03}", grouped(number / 1_000), number % 1_000)
+}
+
+fn in_thousands(number: usize) -> String {
+    match number {
+        0..1_000 => number.to_string(),
+        _ => format!("{} {:03}", in_thousands(number / 1_000), number % 1_000),
+    }
 }
 
 /// So many of something, of which one is written without s.
@@ -138,11 +183,25 @@ pub fn count(number: usize, what: &str) -> String {
     format!("{} {what}{s}", grouped(number))
 }
 
-/// The numbers in a line, in their order.
+/// The numbers in a line, in their order. Digits with nothing but a space between them are one
+/// number, since that is how a person reads them; if they make none, two stand side by side.
 pub fn numbers(line: &str) -> Vec<usize> {
-    line.split(|c: char| !c.is_ascii_digit() && c != ',')
-        .filter_map(|word| word.replace(',', "").parse().ok())
-        .collect()
+    let mut numbers = Vec::new();
+    let mut rest = line;
+    while let Some(start) = rest.find(|c: char| c.is_ascii_digit()) {
+        rest = &rest[start..];
+        let end = rest.find(|c: char| !c.is_ascii_digit() && c != ' ');
+        let (run, after) = rest.split_at(end.unwrap_or(rest.len()));
+        let run = run.trim_end();
+        let number: usize = run.replace(' ', "").parse().expect("a number");
+        assert!(
+            run == number.to_string() || run == grouped(number),
+            "{run:?} in: {line}"
+        );
+        numbers.push(number);
+        rest = after;
+    }
+    numbers
 }
 
 /// The first and the last block of a range, counted from 1; once if they are the same.

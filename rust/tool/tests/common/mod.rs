@@ -8,6 +8,7 @@ pub mod expect;
 pub mod files;
 #[path = "../../../mellansko/tests/random/mod.rs"]
 pub mod random;
+pub mod report;
 pub mod terminal;
 
 use std::io::{Read, Write};
@@ -19,22 +20,23 @@ use std::time::{Duration, Instant};
 /// Longer than any run takes, a build among them, on a machine that has other things to do.
 const PATIENCE: Duration = Duration::from_secs(100);
 
-/// The tool, with nothing on standard input and no wishes as to colour.
+/// The tool under its plain name, with nothing on standard input and no wishes as to looks.
 pub fn tool() -> Command {
     let mut command = Command::new(env!("CARGO_BIN_EXE_mellansko"));
-    command.env_remove("NO_COLOR").env_remove("MELLANSKO");
+    command.env("MELLANSKO", "mellansko");
+    command.env_remove("NO_COLOR").env_remove("COLUMNS");
     command.stdin(Stdio::null());
     command
 }
 
-/// Runs the tool with these words behind its name.
+/// Runs the tool with these words after its name.
 macro_rules! run {
     ($($word:expr),* $(,)?) => {
         $crate::common::ran($crate::common::tool()$(.arg($word))*)
     };
 }
 
-/// Runs the tool with these bytes on standard input, and then these words behind its name.
+/// Runs the tool with these bytes on standard input, and then these words after its name.
 macro_rules! feed {
     ($input:expr; $($word:expr),* $(,)?) => {
         $crate::common::fed($crate::common::tool()$(.arg($word))*, $input)

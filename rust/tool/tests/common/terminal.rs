@@ -1,12 +1,14 @@
 //! A terminal for the tool to run on, of which the test holds the other end.
 
 use super::files::left_out;
-use std::ffi::{c_char, c_int, CStr};
+use super::finish;
+use std::ffi::{c_char, c_int, c_ulong, CStr};
 use std::fs::{File, OpenOptions};
 use std::io::Read;
 use std::os::fd::AsRawFd;
 use std::os::unix::fs::OpenOptionsExt;
 use std::path::Path;
+use std::process::{Command, Stdio};
 use std::sync::atomic::{AtomicBool, Ordering};
 use std::sync::Arc;
 use std::thread::{self, JoinHandle};
@@ -15,6 +17,7 @@ extern "C" {
     fn grantpt(fd: c_int) -> c_int;
     fn unlockpt(fd: c_int) -> c_int;
     fn ptsname_r(fd: c_int, name: *mut c_char, length: usize) -> c_int;
+    fn ioctl(fd: c_int, request: c_ulong, ...) -> c_int;
 }
 
 /// Whether this system has terminals to give. Says so if it has not.
@@ -42,6 +45,47 @@ pub fn terminal() -> (File, File) {
     };
     let far = open(name.to_str().expect("a name in plain letters"));
     (near, far)
+}
+
+/// The same, of so many columns and rows.
+pub fn terminal_of(columns: u16, rows: u16) -> (File, File) {
+    const TIOCSWINSZ: c_ulong = 0x5414;
+    let (near, far) = terminal();
+    let size = [rows, columns, 0, 0];
+    // Safe: the system reads a size, which is four numbers of two bytes.
+    let set = unsafe { ioctl(far.as_raw_fd(), TIOCSWINSZ, size.as_ptr()) };
+    assert_eq!(set, 0);
+    (near, far)
+}
+
+/// Runs a program with standard output and standard error on a terminal of this size, and this on
+/// standard input. Gives its status and all that the terminal shows.
+pub fn ran_on(size: (u16, u16), command: &mut Command, input: &[u8]) -> (Option<i32>, String) {
+    let (near, far) = terminal_of(size.0, size.1);
+    let showing = shown(near);
+    command.stdin(Stdio::piped());
+    command
+        .stdout(far.try_clone().expect("a terminal"))
+        .stderr(far);
+    let child = command.spawn().expect("the program starts");
+    // So that the program alone holds its end.
+    command.stdout(Stdio::null()).stderr(Stdio::null());
+    let ran = finish(child, input.to_vec());
+    (
+        ran.status,
+        without_progress(&showing.all()).replace("\r\n", "\n"),
+    )
+}
+
+/// What erases a line that shows how far the tool is.
+pub const ERASE: &str = "\r\x1b[K";
+
+/// What is left on the screen: before the first such line, and after the last.
+fn without_progress(text: &str) -> String {
+    match (text.split_once(ERASE), text.rsplit_once(ERASE)) {
+        (Some((before, _)), Some((_, after))) => format!("{before}{after}"),
+        _ => text.into(),
+    }
 }
 
 fn open(name: &str) -> File {

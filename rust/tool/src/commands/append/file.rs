@@ -106,7 +106,7 @@ pub fn taken(file: &File, path: &OsStr) -> Result<Vec<u8>, Trouble> {
     journal::read(file, path, LONGEST_LOG, &mut Progress::new()).map_err(trouble)
 }
 
-/// Puts the added bytes behind those that the file has; it gets all of them or none.
+/// Puts the added bytes after those that the file has; it gets all of them or none.
 pub fn store(old: Option<File>, path: &OsStr, used: usize, added: &[u8]) -> Result<(), Trouble> {
     let new = old.is_none();
     let trouble = |error: io::Error| Trouble::io(path, "be written", &error);
@@ -148,7 +148,7 @@ fn begun(path: &OsStr) -> Result<File, Trouble> {
     Ok(file)
 }
 
-/// Behind what the file holds, and down to the disk; a new file's name too.
+/// After what the file holds, and down to the disk; a new file's name too.
 fn put(mut file: &File, path: &OsStr, added: &[u8], new: bool) -> io::Result<()> {
     file.write_all(added)?;
     file.sync_all()?;

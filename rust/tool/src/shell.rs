@@ -1,0 +1,75 @@
+//! What the user can type as it stands.
+
+use crate::words::ends_or_turns;
+use crate::wrap::TIED;
+use std::env;
+use std::ffi::{OsStr, OsString};
+use std::os::unix::ffi::OsStrExt;
+
+/// The tool by the name that it was called with: the script that starts it says, or the system.
+pub fn me() -> String {
+    let script = env::var_os("MELLANSKO").filter(|name| !name.is_empty());
+    let name = script.or_else(|| env::args_os().next().filter(|name| !name.is_empty()));
+    quoted(&name.unwrap_or("mellansko".into()))
+}
+
+/// The tool with these words, and then a file's name and what follows it.
+pub fn typed(words: &str, file: &OsStr, rest: &str) -> String {
+    let mut all = vec![me()];
+    all.extend(words.split(' ').map(String::from));
+    all.push(operand(file));
+    all.extend((!rest.is_empty()).then(|| rest.into()));
+    all.join(&TIED.to_string())
+}
+
+/// A file's name as a program takes it that knows options. A dash alone is standard input.
+pub fn operand(file: &OsStr) -> String {
+    let name = quoted(file);
+    match file.as_bytes().starts_with(b"-") && file != "-" {
+        true => format!("--{TIED}{name}"),
+        false => name,
+    }
+}
+
+/// A word as a shell takes it, with nothing in it that a terminal would obey.
+pub fn quoted(word: &OsStr) -> String {
+    let unseen = |c: char| c.is_control() || ends_or_turns(c);
+    let plain = |c: char| c.is_alphanumeric() || "-_./,:+@%".contains(c);
+    match word.to_str() {
+        Some(text) if !text.is_empty() && text.chars().all(plain) => text.into(),
+        Some(text) if !text.contains(unseen) => {
+            format!("'{}'", text.replace('\'', "'\\''")).replace(' ', &TIED.to_string())
+        }
+        _ => by_bytes(word),
+    }
+}
+
+/// In the quotes that take any byte by its number.
+fn by_bytes(word: &OsStr) -> String {
+    let byte = |&byte: &u8| match byte {
+        b'\'' | b'\\' => format!("\\{}", char::from(byte)),
+        b' ' => TIED.into(),
+        b'!'..=b'~' => char::from(byte).into(),
+        _ => format!("\\{byte:03o}"),
+    };
+    let bytes: String = word.as_bytes().iter().map(byte).collect();
+    format!("$'{bytes}'")
+}
+
+/// A name like this one that no file has yet.
+pub fn another(file: &OsStr) -> OsString {
+    let path = std::path::Path::new(file);
+    let name = |number: usize| {
+        let mut name = path.file_stem().unwrap_or(file).to_os_string();
+        name.push(format!("-{number}"));
+        if let Some(extension) = path.extension() {
+            name.push(".");
+            name.push(extension);
+        }
+        path.with_file_name(name)
+    };
+    let free = (2..)
+        .map(name)
+        .find(|path| path.symlink_metadata().is_err());
+    free.expect("fewer files than numbers").into_os_string()
+}

@@ -1,0 +1,47 @@
+//! Blocks that are equal, byte for byte. The format does not forbid them, but a block that was
+//! copied over another makes them, and no reader can tell what was there before.
+
+use crate::words::grouped;
+use mellansko::BLOCK;
+use std::collections::HashMap;
+
+#[derive(Default)]
+pub struct Twins {
+    /// Blocks, counted from 1, each with the first that it is equal to.
+    pairs: Vec<(usize, usize)>,
+}
+
+impl Twins {
+    pub fn in_log(log: &[u8]) -> Twins {
+        let mut firsts: HashMap<&[u8], usize> = HashMap::new();
+        let mut twins = Twins::default();
+        for (block, number) in log.chunks_exact(BLOCK).zip(1..) {
+            // One byte over and over is no data: so is a block that was never written, or erased.
+            if block.iter().all(|byte| *byte == block[0]) {
+                continue;
+            }
+            let first = *firsts.entry(block).or_insert(number);
+            if first != number {
+                twins.pairs.push((first, number));
+            }
+        }
+        twins
+    }
+
+    pub fn warning(&self) -> Option<String> {
+        let (first, second) = *self.pairs.first()?;
+        let (first, second) = (grouped(first), grouped(second));
+        Some(match self.pairs.len() {
+            1 => format!(
+                "WARNING: blocks {first} and {second} are equal, byte for byte. One may have been copied over the other; \
+                 then records are missing which nobody can name."
+            ),
+            number => format!(
+                "WARNING: {} blocks are equal to an earlier one, byte for byte; the first is block {second}, equal to \
+                 block {first}. They may have been copied over others; then records are missing which nobody can name. \
+                 (A long record that repeats itself makes equal blocks too.)",
+                grouped(number)
+            ),
+        })
+    }
+}

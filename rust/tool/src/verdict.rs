@@ -1,0 +1,61 @@
+//! The answer in one line: what a reading found, and no more than that.
+
+use crate::survey::Survey;
+use crate::words::{blocks_among, blocks_of, bytes, count, from_to, grouped};
+
+impl Survey {
+    pub fn verdict(&self) -> String {
+        if self.length == 0 {
+            return "no damage found, but it is empty: it has no bytes and no records".into();
+        }
+        if self.gaps.is_empty() {
+            return format!(
+                "no damage found in its {}, {}. It has {}",
+                bytes(self.length),
+                count(self.blocks(), "block", "blocks"),
+                self.records_and_last("")
+            );
+        }
+        let doubt: usize = self.gaps.iter().map(|gap| gap.bytes()).sum();
+        let torn = match self.torn() {
+            Some(start) => format!("; its end is torn from byte {} on", grouped(start)),
+            None => String::new(),
+        };
+        let bytes = match doubt == self.length {
+            true => format!("all of its {}", bytes(doubt)),
+            false => format!("{} of its {}", grouped(doubt), bytes(self.length)),
+        };
+        format!(
+            "IN DOUBT: {bytes}, in {}{torn}. It has {}",
+            blocks_among(&self.doubtful_blocks(), self.blocks()),
+            self.records_and_last("readable ")
+        )
+    }
+
+    /// How many such records there are, and where the last one stands: whoever knows what was
+    /// written can compare.
+    fn records_and_last(&self, such: &str) -> String {
+        let Some(last) = self.last else {
+            return format!("no {such}record");
+        };
+        let place = from_to(last.start, last.end);
+        let number = grouped(last.number);
+        match last.number {
+            1 => format!("1 {such}record, {place}"),
+            _ => format!("{number} {such}records; the last is record {number}, {place}"),
+        }
+    }
+
+    /// The blocks that have a byte in doubt, as runs of their numbers from 1 on.
+    fn doubtful_blocks(&self) -> Vec<(usize, usize)> {
+        let mut runs: Vec<(usize, usize)> = Vec::new();
+        for range in self.doubtful() {
+            let (first, last) = blocks_of(range.start, range.end);
+            match runs.last_mut() {
+                Some(run) if first <= run.1 + 1 => run.1 = run.1.max(last),
+                _ => runs.push((first, last)),
+            }
+        }
+        runs
+    }
+}
