@@ -156,7 +156,8 @@ This writes all that can be read into a folder, a file each; put your journal's 
 
     file=race.log
     mkdir records
-    for n in $(seq $({me} dump -- \"$file\" | grep -c ^R)); do
+    last=$({me} dump -- \"$file\" | grep -c ^R)
+    for n in $(seq $last); do
       {me} cat -- \"$file\" $n > records/$n
     done
 

@@ -48,7 +48,7 @@ pub fn for_one(finding: &Finding, screen: Screen) -> Page {
 fn unreadable(finding: &Finding) -> String {
     let then = match finding.survey.torn() {
         Some(0) => {
-            "If it is one, its first record was most often being written when the power went."
+            "If it is one, most often its first record was being written when the power went."
         }
         _ => "If it is one, ask for another copy of it.",
     };
