@@ -7,6 +7,8 @@ use common::damage::{long_logs, mixed_log};
 use common::expect::{grouped, written, Found};
 use common::files::Folder;
 use common::random::Random;
+use common::terminal::{is_there, ran_on};
+use common::tool;
 
 #[test]
 fn every_record_comes_out_byte_for_byte() {
@@ -115,5 +117,68 @@ fn of_damaged_logs_every_record_comes_out_with_the_right_status() {
         }
         let beyond = (found.records.len() + 1).to_string();
         assert_eq!(run!("cat", &file, beyond).status, Some(2));
+    }
+}
+
+/// Records, and how a terminal is shown them.
+const SHOWN: [(&[u8], &str); 10] = [
+    (b"plain", "plain\n"),
+    (b"ended\n", "ended\n"),
+    (b"two\nlines\n\n", "two\nlines\n\n"),
+    (b"", ""),
+    (b"\n", "\n"),
+    (
+        "Jämtland, Östersund\t3".as_bytes(),
+        "Jämtland, Östersund\t3\n",
+    ),
+    (
+        b"\x1b[2J\x1b]0;x\x07\r\x08\x00\x7f",
+        "\\x1b[2J\\x1b]0;x\\x07\\x0d\\x08\\x00\\x7f\n",
+    ),
+    (
+        "\u{9b}2J\u{202e}abc\u{2028}".as_bytes(),
+        "\\u{9b}2J\\u{202e}abc\\u{2028}\n",
+    ),
+    (b"J\xe4mtland \xff\x9b", "J\\xe4mtland \\xff\\x9b\n"),
+    (b"\xc3", "\\xc3\n"),
+];
+
+#[test]
+fn a_terminal_is_given_nothing_that_it_would_obey() {
+    if !is_there() {
+        return;
+    }
+    let folder = Folder::new("cat-terminal");
+    let records: Vec<&[u8]> = SHOWN.iter().map(|(record, _)| *record).collect();
+    let log = written(&records);
+    let file = folder.file("log", &log);
+    let torn = folder.file("torn", &[&log[..], b"torn"].concat());
+    for (number, (record, shown)) in (1..).zip(SHOWN) {
+        let number = number.to_string();
+        let mut cat = tool();
+        cat.arg("cat").arg(&file).arg(&number);
+        let (status, text) = ran_on((80, 24), &mut cat, b"");
+        assert_eq!(status, Some(0));
+        // If it is shown otherwise, that is told, with how to have the record itself.
+        let changed = shown.contains("\\");
+        let said = text.strip_prefix(shown).expect(shown);
+        assert_eq!(said.starts_with("mellansko: bytes that"), changed, "{said}");
+        assert_eq!(said.is_empty(), !changed, "{said}");
+        let advice = format!("cat {} {number} > record-{number}\n", file.display());
+        assert!(!changed || said.ends_with(&advice), "{said}");
+        // To a pipe it is the record itself.
+        assert_eq!(run!("cat", &file, &number).done().out, record);
+
+        // A warning begins a line of its own.
+        let mut cat = tool();
+        cat.arg("cat").arg(&torn).arg(&number);
+        let (status, text) = ran_on((80, 24), &mut cat, b"");
+        assert_eq!(status, Some(1));
+        let said = text.strip_prefix(shown).expect(shown);
+        assert!(said.starts_with("mellansko: "), "{said}");
+        let words: Vec<&str> = said.split_whitespace().collect();
+        assert!(words.join(" ").contains("this is record "), "{said}");
+        let tricks = |c: char| c.is_control() && c != '\n' && c != '\t';
+        assert!(!text.contains(tricks), "{text:?}");
     }
 }

@@ -219,3 +219,37 @@ fn a_record_can_be_typed() {
     command.args(["append", "--new"]).arg(&file).stdin(far);
     common::ran(&mut command).failed(2, &["already"]);
 }
+
+#[test]
+fn a_journal_from_the_terminal_is_asked_for() {
+    if !is_there() {
+        return;
+    }
+    for words in [
+        &["verify", "-"][..],
+        &["dump", "-"],
+        &["map", "-"],
+        &["cat", "-", "1"],
+    ] {
+        let (mut near, far) = terminal();
+        let mut command = tool();
+        command.args(words).stdin(far);
+        command.stdout(Stdio::piped()).stderr(Stdio::piped());
+        let child = command.spawn().expect("the tool");
+        drop(command);
+        near.write_all(b"no journal\n\x04").expect("the terminal");
+        let ran = finish(child, Vec::new());
+        let first = ran.err.lines().next().expect("a prompt");
+        assert_eq!(
+            first,
+            "mellansko: reading a journal from the terminal; end it with Ctrl-D on a line of its own"
+        );
+    }
+    // Nobody is asked where a file or a pipe has it.
+    assert_eq!(
+        fed(tool().args(["verify", "-"]), &written(&["1"]))
+            .done()
+            .err,
+        ""
+    );
+}
