@@ -1,0 +1,187 @@
+//! What is shown fits the screen, and its numbers can't be misread.
+
+#[macro_use]
+mod common;
+
+use common::damage::{long_logs, mixed_log};
+use common::expect::{numbers, written};
+use common::files::Folder;
+use common::random::Random;
+use common::terminal::{is_there, ran_on};
+use common::{ran, tool};
+use reference::log::{BLOCK, HEADER};
+use reference::samples;
+use std::process::Command;
+
+const HELP: [&[&str]; 6] = [
+    &["--help"],
+    &["verify", "--help"],
+    &["dump", "--help"],
+    &["map", "--help"],
+    &["cat", "--help"],
+    &["append", "--help"],
+];
+
+/// A run of each kind that shows text, each in a folder with the journals that it names.
+fn speakers(folder: &Folder) -> Vec<Command> {
+    folder.file("clean", &samples::clean().log);
+    folder.file("damaged", &samples::damaged());
+    folder.file("torn", &samples::torn());
+    folder.file("mixed", &mixed_log());
+    folder.file("equal", &written(&vec![vec![7; BLOCK - HEADER]; 50]));
+    folder.file("no journal", &[b'x'; 100_000]);
+    let words: [&[&str]; 19] = [
+        &["verify", "clean"],
+        &["verify", "damaged"],
+        &["verify", "torn"],
+        &["verify", "mixed"],
+        &["verify", "equal"],
+        &["verify", "no journal"],
+        &["verify", "clean", "damaged", "torn", "missing", "equal"],
+        &["map", "damaged"],
+        &["map", "mixed"],
+        &["cat", "damaged", "999999"],
+        &["cat", "torn", "824"],
+        &["append", "torn"],
+        &["append", "missing"],
+        &["append", "--new", "torn"],
+        &["append", "--new", "no/such/folder/log"],
+        &["dump", "--limit", "262145", "clean"],
+        &["verify", "--nonsense"],
+        &["nonsense"],
+        &[],
+    ];
+    let speaker = |words: &&[&str]| {
+        let mut command = tool();
+        command.args(*words).current_dir(&**folder);
+        command.env("NO_COLOR", "1");
+        command
+    };
+    let words = words.iter().chain(&HELP);
+    words.map(speaker).collect()
+}
+
+/// So high that nothing is said again.
+const HIGH: u16 = 1_000;
+
+/// A line that can be typed is never broken, but the names here are short.
+fn check_rows(text: &str, columns: u16, command: &Command) {
+    for row in text.lines() {
+        let wide = row.chars().count();
+        assert!(wide <= usize::from(columns), "{command:?}: {row}");
+        assert_eq!(row.trim_end(), row);
+    }
+    let rows: Vec<&str> = text.lines().collect();
+    for pair in rows.windows(2) {
+        let (ends, begins) = (pair[0].chars().last(), pair[1].trim_start().chars().next());
+        let digit = |c: Option<char>| c.is_some_and(|c| c.is_ascii_digit());
+        assert!(!digit(ends) || !digit(begins), "a broken number: {pair:?}");
+    }
+}
+
+#[test]
+fn text_is_wrapped_to_the_terminal_between_words() {
+    if !is_there() {
+        return;
+    }
+    let folder = Folder::new("screen-wrap");
+    for mut command in speakers(&folder) {
+        let words =
+            |text: &str| -> Vec<String> { text.split_whitespace().map(String::from).collect() };
+        let (status, wide) = ran_on((200, HIGH), &mut command, b"");
+        // However wide the terminal, rows of text are not.
+        check_rows(&wide, 100, &command);
+        for columns in [60, 80] {
+            let (same, text) = ran_on((columns, HIGH), &mut command, b"");
+            check_rows(&text, columns, &command);
+            assert_eq!(same, status);
+            if !wide.contains("\nblock ") {
+                assert_eq!(words(&text), words(&wide), "{command:?}");
+            }
+        }
+        // In a narrow one no row is empty that is not meant to be, and nothing is lost.
+        let (_, narrow) = ran_on((12, HIGH), &mut command, b"");
+        if !wide.contains("\nblock ") {
+            assert_eq!(words(&narrow), words(&wide), "{command:?}");
+        }
+    }
+}
+
+#[test]
+fn help_is_at_most_80_columns_wide_where_nobody_watches() {
+    for words in HELP {
+        let ran = ran(tool().args(words));
+        check_rows(ran.done().text(), 80, &tool());
+    }
+}
+
+/// Neither commas nor points in a number, and no two numbers that could be read as one.
+#[test]
+fn numbers_can_not_be_misread() {
+    let mut random = Random::new();
+    println!("{random}");
+    let folder = Folder::new("screen-numbers");
+    let mut all: Vec<String> = Vec::new();
+    for mut command in speakers(&folder) {
+        let ran = ran(&mut command);
+        // A record has what numbers it has.
+        let record = command.get_args().any(|word| word == "cat");
+        all.extend((!record).then(|| ran.text().into()));
+        all.push(ran.err);
+    }
+    for log in long_logs(&mut random, 40) {
+        let ran = common::fed(tool().args(["verify", "--all", "-"]), &log);
+        all.push(ran.text().into());
+    }
+    for text in all {
+        for line in text.lines() {
+            // This fails where digits side by side make no number.
+            numbers(line);
+            for mark in [',', '.', '\'', '\u{a0}', '\u{202f}'] {
+                for (place, _) in line.match_indices(mark) {
+                    let digit = |c: Option<char>| c.is_some_and(|c| c.is_ascii_digit());
+                    let before = line[..place].chars().last();
+                    let after = line[place + mark.len_utf8()..].chars().next();
+                    assert!(!digit(before) || !digit(after), "{line}");
+                }
+            }
+        }
+    }
+}
+
+/// The dump is for programs: its numbers are plain.
+#[test]
+fn a_dump_has_plain_numbers() {
+    let folder = Folder::new("screen-dump");
+    let ran = run!("dump", folder.file("log", &samples::damaged()));
+    assert!(ran.text().contains("\nS 32768 65536 3\n"), "{}", ran.text());
+}
+
+/// What help says is promised, and what it says no reader can tell.
+#[test]
+fn help_claims_no_more_than_is_known() {
+    let all = run!("--help").text().replace('\n', " ");
+    let verify = run!("verify", "--help").text().to_string();
+    for text in [
+        &all,
+        &verify.split_whitespace().collect::<Vec<_>>().join(" "),
+    ] {
+        for said in [
+            "between two records",
+            "left out, repeated, or replaced by",
+            "right checksum",
+        ] {
+            assert!(text.contains(said), "{said:?} is not in: {text}");
+        }
+    }
+    assert!(all.contains("Damage that the format shows is always named"));
+    // One by one.
+    let points = verify.lines().filter(|line| line.starts_with("  - "));
+    assert_eq!(points.count(), 4, "{verify}");
+    for words in HELP {
+        let text = ran(tool().args(words)).text().to_lowercase();
+        for claim in ["whole", "silently", "nothing is lost"] {
+            assert!(!text.contains(claim), "{claim}: {text}");
+        }
+    }
+}
