@@ -8,7 +8,7 @@ use crate::journal::Source;
 use crate::shell::me;
 use crate::trouble::Trouble;
 use crate::words::shown;
-use crate::wrap::TIED;
+use crate::wrap::tied;
 use given::Given;
 use mellansko::LONGEST_RECORD;
 use std::ffi::{OsStr, OsString};
@@ -56,9 +56,9 @@ pub fn parse(words: impl Iterator<Item = OsString>) -> Result<Command, Trouble> 
         _ if is_help(&first) => help_on(&rest),
         Some("--version" | "-V") => Ok(Command::Version),
         _ => Err(Trouble::Message(format!(
-            "there is no command {}. The commands are verify, dump, map, cat and append: see {}{TIED}--help",
+            "there is no command {}. The commands are verify, dump, map, cat and append: see {}",
             shown(&first),
-            me()
+            tied(&format!("{} --help", me()))
         ))),
     }
 }

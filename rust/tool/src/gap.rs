@@ -1,6 +1,6 @@
 //! Where records are missing: all that is in doubt between two that can be read.
 
-use crate::words::{blocks, blocks_of, bytes, grouped};
+use crate::words::{blocks, blocks_of, bytes, numbered};
 use mellansko::Reason;
 
 /// A record that can be read: its number, from 1 on, and where it stands.
@@ -39,21 +39,21 @@ impl Gap {
 
     /// Where it lies, how many bytes it has, and in which blocks.
     pub fn heading(&self) -> String {
-        let ends = |place: Place| format!("which ends at byte {}", grouped(place.end));
-        let starts = |place: Place| format!("which starts at byte {}", grouped(place.start));
-        let number = |place: Place| grouped(place.number);
+        let record = |place: Place| numbered("record", place.number);
+        let ends = |place: Place| format!("which ends at {}", numbered("byte", place.end));
+        let starts = |place: Place| format!("which starts at {}", numbered("byte", place.start));
         let lies = match (self.before, self.after) {
             (Some(before), Some(after)) => format!(
-                "between record {}, {}, and record {}, {}",
-                number(before),
+                "between {}, {}, and {}, {}",
+                record(before),
                 ends(before),
-                number(after),
+                record(after),
                 starts(after)
             ),
             (None, Some(after)) => format!("before the first record, {}", starts(after)),
             (Some(before), None) => format!(
-                "after the last record, number {}, {}",
-                number(before),
+                "after the last record, {}, {}",
+                numbered("number", before.number),
                 ends(before)
             ),
             (None, None) => "from the first byte to the last".into(),

@@ -8,7 +8,7 @@ use crate::screen::Screen;
 use crate::shell::me;
 use crate::words::grouped;
 use crate::wrap::{untied, wrapped};
-use mellansko::{BLOCK, LONGEST_LOG, LONGEST_RECORD};
+use mellansko::{Reason, BLOCK, LONGEST_LOG, LONGEST_RECORD};
 
 pub fn page(text: &str, screen: Screen) -> Page {
     let mut page = Page::new(screen);
@@ -44,7 +44,15 @@ fn with_figures(text: &str) -> String {
     text.replace("{BLOCK}", &grouped(BLOCK))
         .replace("{RECORD}", &grouped(LONGEST_RECORD))
         .replace("{LOG}", &grouped(LONGEST_LOG))
+        .replace("{REASONS}", &reasons())
         .replace("{me}", &me())
+}
+
+/// A row for each reason, as the library puts it.
+fn reasons() -> String {
+    let row = |reason: &Reason| format!("  {}   {}: {reason}", reason.number(), reason.name());
+    let rows: Vec<String> = Reason::ALL.iter().map(row).collect();
+    rows.join("\n")
 }
 
 pub const VERSION: &str = concat!("mellansko ", env!("CARGO_PKG_VERSION"));
@@ -65,8 +73,11 @@ FILE may be - for standard input, except for append. With --help after it, each 
 
     {me} verify --help
 
-Exit status: 0 done, and no damage found in what was read; 1 something is in doubt; 2 not done, as with bad \
-arguments or a file that can't be read.
+Exit status:
+
+  0   done, and no damage found in what was read
+  1   something is in doubt
+  2   not done, as with bad arguments or a file that can't be read
 ";
 
 pub const VERIFY: &str = "\
@@ -97,7 +108,11 @@ counts as in doubt too.
 
 FILE may be - for standard input; after -- a name may begin with a dash.
 
-Exit status: 0 no damage found; 1 at least one journal is in doubt; 2 at least one could not be read.
+Exit status:
+
+  0   no damage found
+  1   at least one journal is in doubt
+  2   at least one could not be read
 ";
 
 pub const DUMP: &str = "\
@@ -112,14 +127,24 @@ mellansko cat FILE N gives
   E torn START        the end, with a torn tail from START on
   X NUMBER            refused; nothing else follows
 
-Reasons: 1 bad length, 2 blank, 3 checksum, 4 interrupted, 5 orphan, 6 unknown type, 7 over the limit. Refusals: 1 a \
-journal of more than {LOG} bytes, 5 a limit of more than {RECORD}.
+Reasons:
+
+{REASONS}
+
+Refusals:
+
+  1   the journal has more than {LOG} bytes
+  5   the limit is more than {RECORD}
 
   --limit N   skip records of more than N bytes, for reason 7; {RECORD} if not given
 
 FILE may be - for standard input; after -- a name may begin with a dash.
 
-Exit status: 0 no damage found; 1 something is in doubt; 2 refused, or it could not be read.
+Exit status:
+
+  0   no damage found
+  1   something is in doubt
+  2   refused, or it could not be read
 ";
 
 pub const MAP: &str = "\
@@ -141,14 +166,18 @@ counts as in doubt. What no reader can tell does not show here either; mellansko
 
 FILE may be - for standard input; after -- a name may begin with a dash.
 
-Exit status: 0 no damage found; 1 something is in doubt; 2 it could not be read.
+Exit status:
+
+  0   no damage found
+  1   something is in doubt
+  2   it could not be read
 ";
 
 pub const CAT: &str = "\
 mellansko cat FILE N
 
 Writes the bytes of the N-th record to standard output, just as they were appended. On a terminal, bytes that it would \
-obey are shown as \\x1b instead, and the last line is ended. The records that can be read count from 1. If something in \
+obey are shown by their numbers, as \\x1b, and the last line is ended. The records that can be read count from 1. If something in \
 the journal is in doubt, that is said on standard error: before the record, more may have been written than its number \
 says; after it, a newer one may have been lost.
 
@@ -163,8 +192,11 @@ This writes all that can be read into a folder, a file each; put your journal's 
 
 FILE may be - for standard input; after -- a name may begin with a dash.
 
-Exit status: 0 written, and no damage found in the journal; 1 written, and something in the journal is in doubt; 2 \
-there is no such record, or the file could not be read.
+Exit status:
+
+  0   written, and no damage found in the journal
+  1   written, and something in the journal is in doubt
+  2   there is no such record, or the file could not be read
 ";
 
 pub const APPEND: &str = "\
@@ -180,5 +212,9 @@ at work, another is refused.
 A record has at most {RECORD} bytes, a journal {LOG}. No bytes are a record too: so is what comes of a standard input \
 that is closed, or of a program before a pipe that failed.
 
-Exit status: 0 appended; 1 refused, since something in the journal is in doubt; 2 not appended, for another reason.
+Exit status:
+
+  0   appended
+  1   refused, since something in the journal is in doubt
+  2   not appended, for another reason
 ";

@@ -4,7 +4,7 @@ use crate::progress::Progress;
 use crate::shell::{another, me, operand, typed};
 use crate::trouble::{note, Trouble};
 use crate::words::{bytes, grouped, short};
-use crate::wrap::TIED;
+use crate::wrap::tied;
 use mellansko::{Condition, Refusal, LONGEST_LOG, LONGEST_RECORD};
 use std::ffi::{OsStr, OsString};
 use std::fs::File;
@@ -130,5 +130,5 @@ pub fn why_refused(refusal: Refusal, file: &OsStr) -> String {
 /// What to type for as much of a file as a journal may have.
 fn only_beginning(file: &OsStr) -> String {
     let (me, file) = (me(), operand(file));
-    format!("head -c {LONGEST_LOG} {file} | {me} verify -").replace(' ', &TIED.to_string())
+    tied(&format!("head -c {LONGEST_LOG} {file} | {me} verify -"))
 }

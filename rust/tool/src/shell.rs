@@ -1,7 +1,7 @@
 //! What the user can type as it stands.
 
 use crate::words::ends_or_turns;
-use crate::wrap::TIED;
+use crate::wrap::{tied, TIED};
 use std::env;
 use std::ffi::{OsStr, OsString};
 use std::os::unix::ffi::OsStrExt;
@@ -15,11 +15,8 @@ pub fn me() -> String {
 
 /// The tool with these words, and then a file's name and what follows it.
 pub fn typed(words: &str, file: &OsStr, rest: &str) -> String {
-    let mut all = vec![me()];
-    all.extend(words.split(' ').map(String::from));
-    all.push(operand(file));
-    all.extend((!rest.is_empty()).then(|| rest.into()));
-    all.join(&TIED.to_string())
+    let command = format!("{} {words} {} {rest}", me(), operand(file));
+    tied(command.trim_end())
 }
 
 /// A file's name as a program takes it that knows options. A dash alone is standard input.
@@ -37,9 +34,7 @@ pub fn quoted(word: &OsStr) -> String {
     let plain = |c: char| c.is_alphanumeric() || "-_./,:+@%".contains(c);
     match word.to_str() {
         Some(text) if !text.is_empty() && text.chars().all(plain) => text.into(),
-        Some(text) if !text.contains(unseen) => {
-            format!("'{}'", text.replace('\'', "'\\''")).replace(' ', &TIED.to_string())
-        }
+        Some(text) if !text.contains(unseen) => tied(&format!("'{}'", text.replace('\'', "'\\''"))),
         _ => by_bytes(word),
     }
 }

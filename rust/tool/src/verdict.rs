@@ -1,7 +1,7 @@
 //! The answer in one line: what a reading found, and no more than that.
 
 use crate::survey::Survey;
-use crate::words::{blocks_among, blocks_of, bytes, count, from_to, grouped};
+use crate::words::{blocks_among, blocks_of, bytes, count, from_to, grouped, numbered};
 
 impl Survey {
     pub fn verdict(&self) -> String {
@@ -18,7 +18,7 @@ impl Survey {
         }
         let doubt: usize = self.gaps.iter().map(|gap| gap.bytes()).sum();
         let torn = match self.torn() {
-            Some(start) => format!("; its end is torn from byte {} on", grouped(start)),
+            Some(start) => format!("; its end is torn from {} on", numbered("byte", start)),
             None => String::new(),
         };
         let bytes = match doubt == self.length {
@@ -39,10 +39,14 @@ impl Survey {
             return format!("no {such}record");
         };
         let place = from_to(last.start, last.end);
-        let number = grouped(last.number);
+        let (one, many) = (format!("{such}record"), format!("{such}records"));
+        let records = count(last.number, &one, &many);
         match last.number {
-            1 => format!("1 {such}record, {place}"),
-            _ => format!("{number} {such}records; the last is record {number}, {place}"),
+            1 => format!("{records}, {place}"),
+            number => format!(
+                "{records}; the last is {}, {place}",
+                numbered("record", number)
+            ),
         }
     }
 

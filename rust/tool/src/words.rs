@@ -1,6 +1,6 @@
 //! Numbers, names and lists as a reader of English wants them.
 
-use crate::wrap::TIED;
+use crate::wrap::{tied, TIED};
 use mellansko::BLOCK;
 use std::ffi::OsStr;
 
@@ -23,11 +23,13 @@ pub fn grouped(number: usize) -> String {
 
 /// So many of something.
 pub fn count(number: usize, one: &str, many: &str) -> String {
-    format!(
-        "{} {}",
-        grouped(number),
-        if number == 1 { one } else { many }
-    )
+    let what = if number == 1 { one } else { many };
+    format!("{}{TIED}{what}", grouped(number))
+}
+
+/// Something by its number.
+pub fn numbered(what: &str, number: usize) -> String {
+    format!("{what}{TIED}{}", grouped(number))
 }
 
 pub fn bytes(number: usize) -> String {
@@ -40,7 +42,7 @@ pub fn records(number: usize) -> String {
 
 /// A place and the one that it ends before.
 pub fn from_to(start: usize, end: usize) -> String {
-    format!("bytes {} to {}", grouped(start), grouped(end))
+    tied(&format!("bytes {} to {}", grouped(start), grouped(end)))
 }
 
 /// The first and the last of the blocks, counted from 1, that a range with a byte in it touches.
@@ -50,10 +52,11 @@ pub fn blocks_of(start: usize, end: usize) -> (usize, usize) {
 
 /// Blocks from one to another.
 pub fn blocks(first: usize, last: usize) -> String {
-    match last - first {
+    let blocks = match last - first {
         0 => format!("block {}", grouped(first)),
         _ => format!("blocks {} to {}", grouped(first), grouped(last)),
-    }
+    };
+    tied(&blocks)
 }
 
 /// Some of a journal's blocks, as runs of their numbers: "block 3 of 5", "blocks 1 and 5 to 7 of 9",

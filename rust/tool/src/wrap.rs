@@ -4,6 +4,11 @@
 /// since control characters are escaped there.
 pub const TIED: char = '\u{1}';
 
+/// A text that is to stay on one row.
+pub fn tied(text: &str) -> String {
+    text.replace(' ', &TIED.to_string())
+}
+
 /// The text as it is shown.
 pub fn untied(text: &str) -> String {
     text.replace(TIED, " ")

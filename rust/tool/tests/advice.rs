@@ -290,7 +290,7 @@ fn what_to_do_depends_on_what_was_found() {
         assert_eq!(ran.status, Some(1));
         let advice = ran
             .text()
-            .split_once("\n\nWhat to do now: keep the file as it is. ");
+            .split_once("\n\nWhat to do now: keep the file as it is.\n");
         let advice = advice.expect("advice").1.replace('\n', " ");
         for said in says {
             assert!(advice.contains(said), "{said:?} is not in: {advice}");

@@ -4,7 +4,7 @@ use super::Command;
 use crate::shell::me;
 use crate::trouble::Trouble;
 use crate::words::shown;
-use crate::wrap::TIED;
+use crate::wrap::tied;
 use std::ffi::{OsStr, OsString};
 
 /// The options that take no value.
@@ -116,7 +116,7 @@ impl Given {
 
     pub fn wrong(&self, what: &str) -> Trouble {
         let command = self.command;
-        let help = format!("{}{TIED}{command}{TIED}--help", me());
+        let help = tied(&format!("{} {command} --help", me()));
         Trouble::Message(format!("{command}: {what}. See {help}"))
     }
 }

@@ -8,7 +8,6 @@ use crate::progress::Progress;
 use crate::shell::typed;
 use crate::trouble::{note, Trouble};
 use crate::words::{bytes, count, grouped, records, shown};
-use crate::wrap::TIED;
 use crate::Status;
 use harmless::harmless;
 use mellansko::{Answer, Reading, Tail};
@@ -71,10 +70,11 @@ fn write(record: &[u8], output: &mut Output) -> Result<bool, Trouble> {
 }
 
 fn tell_changed(source: &Source, number: usize) {
-    let cat = typed("cat", source.word(), &number.to_string());
+    let rest = format!("{number} > record-{number}");
+    let cat = typed("cat", source.word(), &rest);
     note(&format!(
         "bytes that are no text, or that a terminal would obey, are shown by their numbers, as \\x1b; for the record's \
-         own bytes: {cat}{TIED}>{TIED}record-{number}"
+         own bytes: {cat}"
     ));
 }
 

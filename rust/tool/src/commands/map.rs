@@ -68,7 +68,7 @@ fn draw(survey: &Survey, blocks: Option<usize>, colour: bool, page: &mut Page) {
     page.empty_row();
     page.rows
         .extend(cell::legend(page.screen.picture(), colour));
-    page.entry("- between two cells: a record runs on from one into the other");
+    page.entry("- between two cells: a record runs on into the next");
     let cell = match blocks {
         1 => "one block".into(),
         _ => format!("{} blocks", grouped(blocks)),

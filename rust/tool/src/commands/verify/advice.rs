@@ -30,16 +30,15 @@ pub fn for_one(finding: &Finding, screen: Screen) -> Page {
     let mut page = Page::new(screen);
     let survey = &finding.survey;
     if survey.status() == Status::Done {
-        page.prose(&compare("Compare that"));
+        page.prose(&compare("Compare the records"));
         return page;
     }
     page.empty_row();
-    let mut sentences = vec!["What to do now: keep the file as it is.".to_string()];
+    page.prose("What to do now: keep the file as it is.");
     match survey.last {
-        None => sentences.push(unreadable(finding)),
-        Some(_) => sentences.extend(by_case(survey)),
+        None => page.prose(&unreadable(finding)),
+        Some(_) => by_case(survey).iter().for_each(|case| page.prose(case)),
     }
-    page.prose(&sentences.join(" "));
     commands(finding, &mut page);
     page
 }
@@ -92,7 +91,10 @@ fn by_case(survey: &Survey) -> Vec<String> {
 fn commands(finding: &Finding, page: &mut Page) {
     let survey = &finding.survey;
     let word = finding.source.word();
-    page.prose("All that is in it:");
+    page.prose(match finding.source {
+        Source::File(_) => "All that is in it:",
+        Source::StandardInput => "All that is in it, with the same input again:",
+    });
     page.command(&typed("dump", word, ""));
     let which = match &survey.gaps[..] {
         [_] => "the gap",
