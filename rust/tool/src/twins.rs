@@ -1,7 +1,8 @@
 //! Blocks that are equal, byte for byte. The format does not forbid them, but a block that was
 //! copied over another makes them, and no reader can tell what was there before.
 
-use crate::words::grouped;
+use crate::words::{count, grouped, numbered};
+use crate::wrap::tied;
 use mellansko::BLOCK;
 use std::collections::HashMap;
 
@@ -30,17 +31,19 @@ impl Twins {
 
     pub fn warning(&self) -> Option<String> {
         let (first, second) = *self.pairs.first()?;
-        let (first, second) = (grouped(first), grouped(second));
         Some(match self.pairs.len() {
             1 => format!(
-                "WARNING: blocks {first} and {second} are equal, byte for byte. One may have been copied over the other; \
-                 then records are missing which nobody can name."
+                "WARNING: {} are equal, byte for byte. One may have been copied over the other; then records are missing \
+                 which nobody can name.",
+                tied(&format!("blocks {} and {}", grouped(first), grouped(second)))
             ),
             number => format!(
-                "WARNING: {} blocks are equal to an earlier one, byte for byte; the first is block {second}, equal to \
-                 block {first}. They may have been copied over others; then records are missing which nobody can name. \
-                 (A long record that repeats itself makes equal blocks too.)",
-                grouped(number)
+                "WARNING: {} are equal to an earlier one, byte for byte; the first is {}, equal to {}. They may have been \
+                 copied over others; then records are missing which nobody can name. (A long record that repeats itself \
+                 makes equal blocks too.)",
+                count(number, "block", "blocks"),
+                numbered("block", second),
+                numbered("block", first)
             ),
         })
     }

@@ -2,6 +2,7 @@
 
 use crate::survey::Survey;
 use crate::words::{blocks_among, blocks_of, bytes, count, from_to, grouped, numbered};
+use crate::wrap::TIED;
 
 impl Survey {
     pub fn verdict(&self) -> String {
@@ -26,7 +27,7 @@ impl Survey {
             false => format!("{} of its {}", grouped(doubt), bytes(self.length)),
         };
         format!(
-            "IN DOUBT: {bytes}, in {}{torn}. It has {}",
+            "IN{TIED}DOUBT: {bytes}, in {}{torn}. It has {}",
             blocks_among(&self.doubtful_blocks(), self.blocks()),
             self.records_and_last("readable ")
         )

@@ -255,43 +255,43 @@ fn a_journal_that_is_full_is_followed_by_another() {
     assert_eq!(folder.names(), ["two words-2.log", "two words.log"]);
 }
 
-/// What each case is told.
-#[test]
-fn what_to_do_depends_on_what_was_found() {
+/// A log, what is said of it, and what is not.
+type Case = (Vec<u8>, &'static [&'static str], &'static [&'static str]);
+
+fn cases() -> [Case; 7] {
+    const LOST: &str = "may have been replaced";
+    const TORN: &str = "when the power went";
+    const WHAT: &str = "is it a journal?";
     let orphan = fragment(LAST, b"orphan");
     let sound = fragment(FULL, b"sound");
     let gap = [&sound[..], &orphan, &sound].concat();
     let torn = [&sound[..], &sound[..5]].concat();
-    let both = [&sound[..], &orphan, &sound, &sound[..5]].concat();
-    let (lost, tail, what) = (
-        "may have been replaced",
-        "when the power went",
-        "is it a journal?",
-    );
-    for (log, says, not) in [
-        (gap, vec![lost], vec![tail, what, "append"]),
+    let both = [&gap[..], &sound[..5]].concat();
+    let text = b"%PDF-1.4 and more".repeat(9);
+    [
+        (gap, &[LOST], &[TORN, WHAT, "append"]),
         (
             torn,
-            vec![tail, "begin a new journal", "append --new"],
-            vec![lost, what],
+            &[TORN, "begin a new journal", "append --new"],
+            &[LOST, WHAT],
         ),
-        (both, vec![lost, tail, "append --new"], vec![what]),
-        (
-            b"%PDF-1.4 and more".repeat(9),
-            vec![what, "\"%PDF-1.\""],
-            vec![lost, "append", "cat "],
-        ),
-        (orphan, vec![what, "another copy"], vec![lost, tail]),
-        (sound[..5].to_vec(), vec![what, tail], vec![lost, "append"]),
-        (vec![0; 100], vec![what, "\\x00\\x00"], vec![lost, tail]),
-    ] {
+        (both, &[LOST, TORN, "append --new"], &[WHAT]),
+        (text, &[WHAT, "\"%PDF-1.\""], &[LOST, "append", "cat "]),
+        (orphan, &[WHAT, "another copy"], &[LOST, TORN]),
+        (sound[..5].to_vec(), &[WHAT, TORN], &[LOST, "append"]),
+        (vec![0; 100], &[WHAT, "\\x00\\x00"], &[LOST, TORN]),
+    ]
+}
+
+#[test]
+fn what_to_do_depends_on_what_was_found() {
+    for (log, says, not) in cases() {
         let folder = Folder::new("advice-case");
         let ran = run!("verify", folder.file("log", &log));
         assert_eq!(ran.status, Some(1));
-        let advice = ran
-            .text()
-            .split_once("\n\nWhat to do now: keep the file as it is.\n");
-        let advice = advice.expect("advice").1.replace('\n', " ");
+        let begin = "\n\nWhat to do now: keep the file as it is.\n";
+        let (_, advice) = ran.text().split_once(begin).expect("advice");
+        let advice = advice.replace('\n', " ");
         for said in says {
             assert!(advice.contains(said), "{said:?} is not in: {advice}");
         }

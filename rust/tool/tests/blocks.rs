@@ -47,7 +47,9 @@ fn check_unseen(log: &[u8]) -> Ran {
     let ran = verified(log);
     ran.done();
     check("standard input", log, &ran.lines());
-    assert!(ran.text().contains("Compare the records with what you expect"));
+    assert!(ran
+        .text()
+        .contains("Compare the records with what you expect"));
     ran
 }
 

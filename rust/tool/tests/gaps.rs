@@ -61,41 +61,38 @@ fn a_trailer_does_not_part_a_gap() {
     }
 }
 
-/// Before the first record, between two, after the last with the torn tail in it, and with no record
-/// at all.
-#[test]
-fn a_gap_is_placed_by_the_records_around_it() {
+/// Logs, and how their gaps are headed: before the first record, between two, after the last with the
+/// torn tail in it, and with no record at all.
+fn placed() -> [(Vec<u8>, &'static [&'static str]); 4] {
     let orphan = || fragment(LAST, b"orphan");
-    let sound = |text: &[u8]| fragment(FULL, text);
-    for (log, headings) in [
+    let sound = || fragment(FULL, b"sound");
+    let torn = || vec![9; 3];
+    [
         (
-            [orphan(), orphan(), sound(b"1")].concat(),
-            &["before the first record, which starts at byte "][..],
+            [orphan(), orphan(), sound()].concat(),
+            &["before the first record, which starts at byte "],
         ),
         (
-            [
-                sound(b"1"),
-                orphan(),
-                orphan(),
-                sound(b"2"),
-                orphan(),
-                sound(b"3"),
-            ]
-            .concat(),
+            [sound(), orphan(), orphan(), sound(), orphan(), sound()].concat(),
             &[
-                "between record 1, which ends at",
-                "between record 2, which ends at",
+                "between record 1, which ends",
+                "between record 2, which ends",
             ],
         ),
         (
-            [sound(b"1"), orphan(), vec![9; 3]].concat(),
+            [sound(), orphan(), torn()].concat(),
             &["after the last record, number 1, which ends at byte "],
         ),
         (
-            [orphan(), vec![9; 3]].concat(),
+            [orphan(), torn()].concat(),
             &["from the first byte to the last: "],
         ),
-    ] {
+    ]
+}
+
+#[test]
+fn a_gap_is_placed_by_the_records_around_it() {
+    for (log, headings) in placed() {
         let ran = fed(tool().args(["verify", "-"]), &log);
         let lines = ran.lines();
         check("standard input", &log, &lines);

@@ -195,8 +195,20 @@ fn a_record_can_be_typed() {
         fs::read(&file).expect("the journal"),
         written(&[b"LW10-1 0.9137\n"])
     );
+    // A name that is wrong shows before anything is typed.
+    let (_near, far) = terminal();
+    let mut command = tool();
+    command.args(["append", "--new"]).arg(&file).stdin(far);
+    common::ran(&mut command).failed(2, &["already"]);
+}
 
-    // Nothing is shown into what is being typed, however long that takes.
+#[test]
+fn nothing_is_shown_into_what_is_being_typed() {
+    if !is_there() {
+        return;
+    }
+    let folder = Folder::new("terminal-typing");
+    let file = folder.file("log", b"");
     let (mut near, far) = terminal();
     let showing = shown(near.try_clone().expect("a terminal"));
     let mut command = tool();
@@ -205,6 +217,7 @@ fn a_record_can_be_typed() {
     command.stdout(Stdio::piped()).stderr(far);
     let child = command.spawn().expect("the tool");
     drop(command);
+    // However long that takes.
     slowly(&mut near, b"one\ntwo\nthree\nfour\n\x04");
     finish(child, Vec::new());
     let showing = showing.all();
@@ -212,12 +225,6 @@ fn a_record_can_be_typed() {
         showing.contains("Ctrl-D") && !showing.contains(" read"),
         "{showing:?}"
     );
-
-    // A name that is wrong shows before anything is typed.
-    let (_near, far) = terminal();
-    let mut command = tool();
-    command.args(["append", "--new"]).arg(&file).stdin(far);
-    common::ran(&mut command).failed(2, &["already"]);
 }
 
 #[test]

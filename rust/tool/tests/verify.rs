@@ -37,7 +37,9 @@ fn where_no_damage_is_found_the_records_and_the_last_one_are_named() {
             assert!(first.contains(&figure), "{figure:?} is not in: {first}");
         }
         // And then, that they are to be compared.
-        assert!(ran.text().contains("\nCompare the records with what you expect: "));
+        assert!(ran
+            .text()
+            .contains("\nCompare the records with what you expect: "));
     }
 }
 
