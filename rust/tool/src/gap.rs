@@ -37,7 +37,7 @@ impl Gap {
             .sum()
     }
 
-    /// Where it lies, how many bytes it has, and in which blocks.
+    /// How many bytes it has, in which blocks, and between which records it lies.
     pub fn heading(&self) -> String {
         let record = |place: Place| numbered("record", place.number);
         let ends = |place: Place| format!("which ends at {}", numbered("byte", place.end));
@@ -60,7 +60,7 @@ impl Gap {
         };
         let (first, last) = self.blocks();
         let blocks = blocks(first, last);
-        format!("Gap {lies}: {}, in {blocks}", bytes(self.bytes()))
+        format!("Gap of {} in {blocks}, {lies}", bytes(self.bytes()))
     }
 
     fn blocks(&self) -> (usize, usize) {

@@ -136,7 +136,7 @@ Refusals:
   1   the journal has more than {LOG} bytes
   5   the limit is more than {RECORD}
 
-  --limit N   skip records of more than N bytes, for reason 7; {RECORD} if not given
+  --limit N   skip records of more than N bytes, for reason 7; if not given, N is {RECORD}
 
 FILE may be - for standard input; after -- a name may begin with a dash.
 

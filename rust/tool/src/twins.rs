@@ -8,8 +8,10 @@ use std::collections::HashMap;
 
 #[derive(Default)]
 pub struct Twins {
-    /// Blocks, counted from 1, each with the first that it is equal to.
-    pairs: Vec<(usize, usize)>,
+    /// How many blocks are equal to an earlier one.
+    number: usize,
+    /// The first that is, and the one that it is equal to, counted from 1.
+    first: Option<(usize, usize)>,
 }
 
 impl Twins {
@@ -21,29 +23,30 @@ impl Twins {
             if block.iter().all(|byte| *byte == block[0]) {
                 continue;
             }
-            let first = *firsts.entry(block).or_insert(number);
-            if first != number {
-                twins.pairs.push((first, number));
+            let earlier = *firsts.entry(block).or_insert(number);
+            if earlier != number {
+                twins.number += 1;
+                twins.first.get_or_insert((number, earlier));
             }
         }
         twins
     }
 
     pub fn warning(&self) -> Option<String> {
-        let (first, second) = *self.pairs.first()?;
-        Some(match self.pairs.len() {
+        let (block, earlier) = self.first?;
+        Some(match self.number {
             1 => format!(
                 "WARNING: {} are equal, byte for byte. One may have been copied over the other; then records are missing \
                  which nobody can name.",
-                tied(&format!("blocks {} and {}", grouped(first), grouped(second)))
+                tied(&format!("blocks {} and {}", grouped(earlier), grouped(block)))
             ),
             number => format!(
                 "WARNING: {} are equal to an earlier one, byte for byte; the first is {}, equal to {}. They may have been \
                  copied over others; then records are missing which nobody can name. (A long record that repeats itself \
                  makes equal blocks too.)",
                 count(number, "block", "blocks"),
-                numbered("block", second),
-                numbered("block", first)
+                numbered("block", block),
+                numbered("block", earlier)
             ),
         })
     }

@@ -48,11 +48,11 @@ fn a_record_that_is_not_there_is_not_made_up() {
     run!("cat", &one, "2").failed(2, &["times", "no record 2", "1 record can be read"]);
     // What is in doubt may have held it.
     let torn = folder.file("times", &log[..15]);
-    run!("cat", &torn, "2").failed(2, &["no record 2", "1 record", "7 bytes in doubt"]);
+    run!("cat", &torn, "2").failed(2, &["no record 2", "1 record", "7 bytes are in doubt"]);
     let mut changed = log;
     changed[7] ^= 1;
     let changed = folder.file("times", &changed);
-    run!("cat", &changed, "1").failed(2, &["no record 1", "0 records", "16 bytes in doubt"]);
+    run!("cat", &changed, "1").failed(2, &["no record 1", "0 records", "16 bytes are in doubt"]);
 }
 
 #[test]

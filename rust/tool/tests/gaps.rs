@@ -26,7 +26,7 @@ fn with_gaps(gaps: usize) -> Vec<u8> {
 }
 
 fn is_heading(line: &&&str) -> bool {
-    line.starts_with("Gap ")
+    line.starts_with("Gap of ")
 }
 
 #[test]
@@ -85,7 +85,7 @@ fn placed() -> [(Vec<u8>, &'static [&'static str]); 4] {
         ),
         (
             [orphan(), torn()].concat(),
-            &["from the first byte to the last: "],
+            &["from the first byte to the last"],
         ),
     ]
 }

@@ -64,7 +64,7 @@ fn the_example_is_cut_as_document_01_says() {
     );
     assert_eq!(
         lines[1],
-        "Gap after the last record, number 2, which ends at byte 98 298: 8006 bytes, in block 4"
+        "Gap of 8006 bytes in block 4, after the last record, number 2, which ends at byte 98 298"
     );
     assert!(lines[2].starts_with("  - bytes 98 304 to 106 310 (8006 bytes, block 4): torn"));
 
@@ -91,8 +91,8 @@ fn the_example_with_a_byte_changed_is_as_document_01_says() {
     );
     assert_eq!(
         lines[1],
-        "Gap between record 1, which ends at byte 1007, and record 2, which starts at byte 98 304: \
-         97 291 bytes, in blocks 1 to 3"
+        "Gap of 97 291 bytes in blocks 1 to 3, between record 1, which ends at byte 1007, \
+         and record 2, which starts at byte 98 304"
     );
     for (line, range, reason) in [
         (

@@ -7,7 +7,7 @@ use crate::output::Output;
 use crate::progress::Progress;
 use crate::shell::typed;
 use crate::trouble::{note, Trouble};
-use crate::words::{bytes, count, grouped, records, shown};
+use crate::words::{count, grouped, records, shown};
 use crate::Status;
 use harmless::harmless;
 use mellansko::{Answer, Reading, Tail};
@@ -81,17 +81,23 @@ fn tell_changed(source: &Source, number: usize) {
 fn missing(source: &Source, number: usize, found: usize, doubt: usize) -> Trouble {
     let doubt = match doubt {
         0 => String::new(),
-        _ => format!(", and {} in doubt, which may have held more", bytes(doubt)),
+        _ => format!(
+            ". Another {} in doubt, which may have held more",
+            in_doubt(doubt)
+        ),
     };
     let (number, there) = (grouped(number), records(found));
-    let what = format!("there is no record {number}: {there} can be read{doubt}");
+    let what = format!("there is no record {number}: only {there} can be read{doubt}");
     Trouble::of(source.name(), &what)
+}
+
+fn in_doubt(bytes: usize) -> String {
+    count(bytes, "byte is", "bytes are")
 }
 
 /// What is lost before the record may shift its number, and what is lost after it may be a newer one
 /// that was to take its place.
 fn warn(source: &Source, number: usize, before: usize, after: usize) {
-    let in_doubt = |doubt| count(doubt, "byte is", "bytes are");
     let mut what = format!(
         "this is record {} of those that can be read.",
         grouped(number)

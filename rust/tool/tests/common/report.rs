@@ -95,18 +95,22 @@ fn doubtful_blocks(found: &Found) -> Vec<usize> {
 pub fn check_heading(line: &str, gap: &Gap, found: &Found) {
     let before = gap.before.checked_sub(1).map(|i| &found.records[i].0);
     let after = found.records.get(gap.before).map(|(range, _)| range);
-    let (words, mut expected) = match (before, after) {
+    let (words, place) = match (before, after) {
         (Some(before), Some(after)) => (
-            "Gap between record ",
+            ", between record ",
             vec![gap.before, before.end, gap.before + 1, after.start],
         ),
-        (None, Some(after)) => ("Gap before the first record, ", vec![after.start]),
-        (Some(before), None) => ("Gap after the last record, ", vec![gap.before, before.end]),
-        (None, None) => ("Gap from the first byte to the last: ", vec![]),
+        (None, Some(after)) => (", before the first record, ", vec![after.start]),
+        (Some(before), None) => (", after the last record, ", vec![gap.before, before.end]),
+        (None, None) => (", from the first byte to the last", vec![]),
     };
-    expected.push(gap.bytes());
+    let mut expected = vec![gap.bytes()];
     expected.extend(block_numbers(&gap.span()));
-    assert!(line.starts_with(words), "{line}");
+    expected.extend(place);
+    assert!(
+        line.starts_with("Gap of ") && line.contains(words),
+        "{line}"
+    );
     assert_eq!(numbers(line), expected, "{line}");
 }
 
