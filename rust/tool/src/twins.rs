@@ -19,7 +19,7 @@ impl Twins {
         let mut firsts: HashMap<&[u8], usize> = HashMap::new();
         let mut twins = Twins::default();
         for (block, number) in log.chunks_exact(BLOCK).zip(1..) {
-            // One byte over and over is no data: so is a block that was never written, or erased.
+            // One byte over and over is no data, but a block that was never written, or was erased.
             if block.iter().all(|byte| *byte == block[0]) {
                 continue;
             }

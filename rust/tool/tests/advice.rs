@@ -6,6 +6,7 @@ mod common;
 use common::damage::mixed_log;
 use common::expect::{dumped, longest_log, written, Found};
 use common::files::{left_out, Folder};
+use common::random::Random;
 use common::{fed, finish, ran, tool, Ran};
 use reference::log::{fragment, FULL, LAST};
 use reference::samples;
@@ -146,6 +147,50 @@ fn what_append_advises_can_be_typed_and_names_a_file_that_is_not_there() {
             typed(new, &folder, b"new").expect("a shell").done();
             assert_eq!(folder.names().len(), round + 1, "{new}");
         }
+    }
+}
+
+#[test]
+fn to_begin_a_journal_and_to_add_to_it_can_be_typed() {
+    for name in NAMES {
+        let folder = Folder::new("advice-begin");
+        let name = OsStr::from_bytes(name);
+        let append = |words: &[&str]| {
+            let mut command = called(own_name(), &folder);
+            fed(command.arg("append").args(words).arg("--").arg(name), b"x")
+        };
+        let advised = |ran: &Ran, lead: &str| {
+            let (_, command) = ran.err.split_once(lead).expect(lead);
+            typed(command, &folder, b"1").is_some_and(|ran| ran.status == Some(0))
+        };
+        if advised(&append(&[]), "to begin a new journal: ") {
+            assert!(advised(&append(&["--new"]), "To add to it: "));
+            let log = fs::read(folder.join(name)).expect("the journal");
+            assert_eq!(log, written(&[b"1", b"1"]));
+        }
+    }
+}
+
+/// Names of any bytes that a file may have.
+#[test]
+fn a_name_of_any_bytes_can_be_typed() {
+    let mut random = Random::new();
+    println!("{random}");
+    let log = mixed_log();
+    for _ in 0..40 {
+        let folder = Folder::new("advice-random");
+        let length = 1 + random.below(20);
+        let mut name = random.bytes(length);
+        name.iter_mut()
+            .filter(|byte| matches!(**byte, 0 | b'/'))
+            .for_each(|byte| *byte = b'\'');
+        let path = folder.file(OsStr::from_bytes(&name), &log);
+        let ran = ran(called(own_name(), &folder).arg("verify").arg(&path));
+        no_control(ran.text());
+        let Some(dump) = typed(commands(&ran)[0], &folder, b"") else {
+            return;
+        };
+        assert_eq!(dump.text(), dumped(&log, 262_144), "{name:?}");
     }
 }
 

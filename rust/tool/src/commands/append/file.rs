@@ -2,6 +2,7 @@
 
 use crate::journal;
 use crate::progress::Progress;
+use crate::shell::typed;
 use crate::trouble::{in_words, Trouble};
 use crate::words::{grouped, shown};
 use mellansko::LONGEST_LOG;
@@ -52,7 +53,8 @@ fn not_begun(path: &OsStr, error: &io::Error) -> Trouble {
 }
 
 fn there_already(path: &OsStr) -> Trouble {
-    nothing_appended(path, "it is there already. To add to it, leave out --new")
+    let add = typed("append", path, "");
+    nothing_appended(path, &format!("it is there already. To add to it: {add}"))
 }
 
 fn folder_of(path: &OsStr) -> &Path {
@@ -64,10 +66,12 @@ fn folder_of(path: &OsStr) -> &Path {
 
 fn existing(path: &OsStr) -> Result<File, Trouble> {
     let trouble = |error: io::Error| match error.kind() {
-        io::ErrorKind::NotFound => nothing_appended(
-            path,
-            "there is no such file. Check the name; to begin a new journal, add --new",
-        ),
+        io::ErrorKind::NotFound => {
+            let new = typed("append --new", path, "");
+            let why =
+                format!("there is no such file. Check the name; to begin a new journal: {new}");
+            nothing_appended(path, &why)
+        }
         _ => Trouble::io(path, "be appended to", &error),
     };
     let metadata = fs::metadata(path).map_err(trouble)?;
