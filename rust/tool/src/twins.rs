@@ -36,13 +36,13 @@ impl Twins {
         let (block, earlier) = self.first?;
         Some(match self.number {
             1 => format!(
-                "WARNING: {} are equal, byte for byte. One may have been copied over the other; then records are missing \
-                 which nobody can name.",
+                "WARNING: {} are equal, byte for byte. One may have been copied over the other: {MISSING} Or it was put \
+                 in twice: {LONGER}",
                 tied(&format!("blocks {} and {}", grouped(earlier), grouped(block)))
             ),
             number => format!(
                 "WARNING: {} are equal to an earlier one, byte for byte; the first is {}, equal to {}. They may have been \
-                 copied over others; then records are missing which nobody can name. (A long record that repeats itself \
+                 copied over others: {MISSING} Or they were put in twice: {LONGER} (A long record that repeats itself \
                  makes equal blocks too.)",
                 count(number, "block", "blocks"),
                 numbered("block", block),
@@ -51,3 +51,7 @@ impl Twins {
         })
     }
 }
+
+/// What a copy over another block does, and what one between others does.
+const MISSING: &str = "then records are missing which nobody can name.";
+const LONGER: &str = "then records are repeated, or longer than they were.";
