@@ -176,7 +176,7 @@ Exit status:
 pub const CAT: &str = "\
 mellansko cat FILE N
 
-Writes the bytes of the N-th record to standard output, just as they were appended. On a terminal, bytes that it would \
+Writes the bytes of the N-th record to standard output, just as the journal has them. On a terminal, bytes that it would \
 obey are shown by their numbers, as \\x1b, and the last line is ended. The records that can be read count from 1. If something in \
 the journal is in doubt, that is said on standard error: before the record, more may have been written than its number \
 says; after it, a newer one may have been lost.
