@@ -106,7 +106,7 @@ MELLANSKO_UNNAMED struct mellansko_answer {
     };
 };
 
-/* Where these would be other words than the calls', it does not compile. */
+/* If these were not the calls' words, this would not compile. */
 typedef char mellansko_answer_has_the_words_of_the_calls[
     sizeof(struct mellansko_answer) == 80 &&
     offsetof(struct mellansko_answer, kind) == 0 &&
@@ -147,7 +147,7 @@ enum mellansko_reason {
     MELLANSKO_CHECKSUM = 3,      /* the header's checksum is not that of its type and data */
     MELLANSKO_INTERRUPTED = 4,   /* a record that is begun and not finished, up to what stands where
                                     its next fragment should; the next call answers for that */
-    MELLANSKO_ORPHAN = 5,        /* one fragment, which goes on with a record that is not begun */
+    MELLANSKO_ORPHAN = 5,        /* one fragment, which continues a record that was not begun */
     MELLANSKO_UNKNOWN_TYPE = 6,  /* one fragment, of a type that the format does not have */
     MELLANSKO_OVER_LIMIT = 7     /* a record, up to the end of the fragment that takes it above the
                                     limit; sound fragments of it after that one are orphans */
@@ -155,7 +155,7 @@ enum mellansko_reason {
 
 /* An end's tail. The end's start is 0 if it is clean. */
 enum mellansko_tail {
-    MELLANSKO_CLEAN = 0,  /* nothing is begun and not finished. So ends a log cut between records */
+    MELLANSKO_CLEAN = 0,  /* nothing is begun and not finished; also of a log cut between records */
     MELLANSKO_TORN = 1    /* the log ends inside of what starts at the end's start */
 };
 
@@ -176,7 +176,7 @@ enum mellansko_tail {
  * skip and a clean end. If not, begin another log: a record after what is in doubt may be skipped
  * with it, and one at the start of a torn tail writes over what the tail holds.
  *
- * How many bytes are added can be known before (3.7). Let r = 32,768 - mark % 32,768, what is left
+ * The number of bytes added can be worked out (3.7). Let r = 32,768 - mark % 32,768, what is left
  * of the block. If r < 7 there is a trailer first, of p = r zeros, and room for a = 32,761 bytes of
  * data in the first fragment; otherwise p = 0 and a = r - 7. If a record's n bytes are a or fewer,
  * it adds p + 7 + n; else p + n + 7 * (1 + q), q being (n - a) / 32,761 rounded up. Its span starts
@@ -198,7 +198,7 @@ uint64_t mellansko_append(uint8_t *log, size_t log_len, size_t mark, const uint8
  *   MELLANSKO_END            end.tail and .start
  *   MELLANSKO_NEXT_REFUSED   refused.number, refused.given
  *
- * The log is never written. Of the buffer the first length bytes are, for a gathered record alone.
+ * The log is never written. The buffer is for a gathered record alone: its first length bytes.
  *
  * All but a refusal have a place to go on from (4.2): that of a record or a skip is its end, that
  * of a clean end log_len, and that of a torn one the tail's start. To read a log, call at place 0

@@ -110,8 +110,8 @@ pub enum Tail {
     Clean,
     /// The log ends inside of what starts at this place. That may be a record that was being written.
     /// But a damaged length in the last block looks the same, and then records that were written
-    /// whole lie in the tail: it must not be treated as never written, and no record be appended
-    /// after it or over it.
+    /// whole may lie in the tail. It must not be treated as never written, and no record must be
+    /// appended after it or over it.
     Torn(usize),
 }
 

@@ -52,15 +52,15 @@
 //! - Records that were appended one after the other, from mark 0 on, read back exactly and in order,
 //!   with nothing skipped and a clean end, if the limit is not below any of them.
 //! - If such a log is cut anywhere, the records that end at the cut or before it come out as written,
-//!   and one that it falls into is a torn tail. If one block is changed in any way, the records with
-//!   no byte in it come out as written.
+//!   and one that it falls into is a torn tail. If any bytes of one block are changed, and the length
+//!   stays, the records with no byte in that block come out as written.
 //! - Of any log, every byte is in exactly one record's span, skipped range or torn tail, or in a
 //!   trailer outside of these.
 //!
 //! This crate itself is tested, not proved. It puts the answers, ten numbers each, into types, and
-//! cuts a record's bytes out of the slice that its answer names. Its only unsafe code are the calls,
-//! which require no more than what a reference to a slice is. If what is linked gives an answer that
-//! there is not, and so is not the proved calls, it panics.
+//! cuts a record's bytes out of the slice that its answer names. Its only unsafe code is the calls,
+//! which need no more than a reference to a slice guarantees. It panics at an answer that the proved
+//! calls cannot give: then another archive is linked.
 //!
 //! # What no reader of this format can tell
 //!
@@ -109,7 +109,8 @@ pub use reason::Reason;
 pub use records::{records, records_with_limit, Doubt, NotWhole};
 pub use refusal::{Condition, Refusal};
 
-/// The bytes of a block. If one block is changed, records with no byte in it come out as written.
+/// The bytes of a block. If one block of a log that [`append`] made is changed, records with no byte
+/// in it come out as written.
 pub const BLOCK: usize = 32_768;
 
 /// The most bytes that a record has.

@@ -114,7 +114,7 @@ impl<'log> Reading<'log> {
         })
     }
 
-    /// The place to go on from: every byte before it has been answered for.
+    /// The place to go on from: every byte before it has been answered for, or is in a trailer.
     #[inline]
     #[must_use]
     pub fn place(&self) -> usize {

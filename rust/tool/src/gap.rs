@@ -50,9 +50,9 @@ impl Gap {
                 record(after),
                 starts(after)
             ),
-            (None, Some(after)) => format!("before the first record, {}", starts(after)),
+            (None, Some(after)) => format!("before the first readable record, {}", starts(after)),
             (Some(before), None) => format!(
-                "after the last record, {}, {}",
+                "after the last readable record, {}, {}",
                 numbered("number", before.number),
                 ends(before)
             ),

@@ -85,8 +85,8 @@ mellansko verify [--all] FILE..
 
 Says of each journal what damage it shows. The first line answers; with several files it speaks of all of them. Then \
 each gap is listed: between which records it lies, and which ranges of bytes in it are in doubt, with the reasons. \
-Places count from 0 and a range ends before its second number; blocks, of {BLOCK} bytes, and records count from 1, the \
-records as those that can be read.
+Places count from 0 and a range ends before its second number. Blocks, of {BLOCK} bytes, and records count from 1; \
+only records that can be read are counted.
 
   --all   list every gap and every range, and not the first twenty alone
 
@@ -99,10 +99,11 @@ put together from pieces of several
   - bytes made with a right checksum, by somebody or by chance
   - the up to six bytes that fill up a block, which are not judged
 
-So compare the number of records, and where the last one stands, with what you expect. Blocks that are equal byte for \
-byte get a warning, since one may have been copied over another; the exit status stays as it is.
+So compare the number of records, and where the last one stands, with what you expect. Full blocks that are equal \
+byte for byte, but not of one byte over and over, get a warning, since one may have been copied over another; the exit \
+status stays as it is.
 
-A torn end is most often the record that was being written when the power went. A damaged length in the last block \
+A torn end may be the record that was being written when the power went. A damaged length in the last block \
 looks the same, and then records that were written to their end may lie there. A record of more than {RECORD} bytes \
 counts as in doubt too.
 
@@ -158,10 +159,10 @@ Draws a journal, a cell for each block of {BLOCK} bytes. Before each row stands 
   X   both
   -   between two cells: a record runs on from one into the other
 
-  --blocks N     draw N blocks as one cell; if not given, as many as it takes for 16 rows
+  --blocks N     draw N blocks as one cell; if not given, as many as it takes for at most 16 rows
   --color WHEN   always, never, or auto: on a terminal, unless TERM is dumb or NO_COLOR is set
 
-The picture is as wide as the terminal; elsewhere as COLUMNS says, or 80 columns. A record of more than {RECORD} bytes \
+The picture is at most as wide as the terminal; elsewhere as COLUMNS says, or 80 columns. A record of more than {RECORD} bytes \
 counts as in doubt. What no reader can tell does not show here either; mellansko verify --help lists it.
 
 FILE may be - for standard input; after -- a name may begin with a dash.
@@ -176,8 +177,8 @@ Exit status:
 pub const CAT: &str = "\
 mellansko cat FILE N
 
-Writes the bytes of the N-th record to standard output, just as the journal has them. On a terminal, bytes that it would \
-obey are shown by their numbers, as \\x1b, and the last line is ended. The records that can be read count from 1. If something in \
+Writes the bytes of the N-th record to standard output, just as the journal has them. On a terminal, bytes \
+that are no text, or that it would obey, are shown by their numbers, as \\x1b, and the last line is ended. The records that can be read count from 1. If something in \
 the journal is in doubt, that is said on standard error: before the record, more may have been written than its number \
 says; after it, a newer one may have been lost.
 
@@ -196,7 +197,7 @@ Exit status:
 
   0   written, and no damage found in the journal
   1   written, and something in the journal is in doubt
-  2   there is no such record, or the file could not be read
+  2   no such record can be read, or the file could not be read
 ";
 
 pub const APPEND: &str = "\
@@ -204,13 +205,13 @@ mellansko append [--new] FILE
 
 Appends all of standard input to a journal as one record, byte for byte, at the journal's end, and says where it \
 stands. A journal in which something is in doubt is refused and left as it is, since a record after that might not be \
-found again: begin another. The file only grows; if a write fails it is cut back to what it was. While one append is \
-at work, another is refused.
+found again: begin another. What the file holds is never overwritten; if a write fails, what it added is cut off \
+again, and a new file is removed. While one append is at work, another is refused.
 
   --new   begin a new journal; refused if the file is there already
 
-A record has at most {RECORD} bytes, a journal {LOG}. No bytes are a record too: so is what comes of a standard input \
-that is closed, or of a program before a pipe that failed.
+A record has at most {RECORD} bytes, a journal {LOG}. An empty input is a record too, of 0 bytes: a closed standard \
+input gives such a record, and so does a program before the pipe that failed.
 
 Exit status:
 

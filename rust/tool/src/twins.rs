@@ -37,13 +37,12 @@ impl Twins {
         Some(match self.number {
             1 => format!(
                 "WARNING: {} are equal, byte for byte. One may have been copied over the other: {MISSING} Or it was put \
-                 in twice: {LONGER}",
+                 in twice: {LONGER} {SOUND}",
                 tied(&format!("blocks {} and {}", grouped(earlier), grouped(block)))
             ),
             number => format!(
                 "WARNING: {} are equal to an earlier one, byte for byte; the first is {}, equal to {}. They may have been \
-                 copied over others: {MISSING} Or they were put in twice: {LONGER} (A long record that repeats itself \
-                 makes equal blocks too.)",
+                 copied over others: {MISSING} Or they were put in twice: {LONGER} {SOUND}",
                 count(number, "block", "blocks"),
                 numbered("block", block),
                 numbered("block", earlier)
@@ -52,6 +51,7 @@ impl Twins {
     }
 }
 
-/// What a copy over another block does, and what one between others does.
+/// What a copy over another block does, what one between others does, and what else it may be.
 const MISSING: &str = "then records are missing which nobody can name.";
 const LONGER: &str = "then records are repeated, or longer than they were.";
+const SOUND: &str = "(A long record that repeats itself makes equal blocks too.)";

@@ -23,7 +23,7 @@ fn check(log: &[u8], limit: usize) {
 }
 
 #[test]
-fn the_example_is_listed_as_document_01_says() {
+fn the_example_is_listed_as_the_format_page_says() {
     let folder = Folder::new("dump-example");
     let file = folder.file("log", &example());
     let ran = run!("dump", "--limit", "24576", &file);

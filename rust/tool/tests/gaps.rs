@@ -70,7 +70,7 @@ fn placed() -> [(Vec<u8>, &'static [&'static str]); 4] {
     [
         (
             [orphan(), orphan(), sound()].concat(),
-            &["before the first record, which starts at byte "],
+            &["before the first readable record, which starts at byte "],
         ),
         (
             [sound(), orphan(), orphan(), sound(), orphan(), sound()].concat(),
@@ -81,7 +81,7 @@ fn placed() -> [(Vec<u8>, &'static [&'static str]); 4] {
         ),
         (
             [sound(), orphan(), torn()].concat(),
-            &["after the last record, number 1, which ends at byte "],
+            &["after the last readable record, number 1, which ends at byte "],
         ),
         (
             [orphan(), torn()].concat(),

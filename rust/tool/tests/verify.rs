@@ -44,7 +44,7 @@ fn where_no_damage_is_found_the_records_and_the_last_one_are_named() {
 }
 
 #[test]
-fn the_example_is_cut_as_document_01_says() {
+fn the_example_is_cut_as_the_format_page_says() {
     let log = example();
     let sound = fed(tool().args(["verify", "-"]), &log);
     assert_eq!(
@@ -64,7 +64,7 @@ fn the_example_is_cut_as_document_01_says() {
     );
     assert_eq!(
         lines[1],
-        "Gap of 8006 bytes in block 4, after the last record, number 2, which ends at byte 98 298"
+        "Gap of 8006 bytes in block 4, after the last readable record, number 2, which ends at byte 98 298"
     );
     assert!(lines[2].starts_with("  - bytes 98 304 to 106 310 (8006 bytes, block 4): torn"));
 
@@ -78,7 +78,7 @@ fn the_example_is_cut_as_document_01_says() {
 }
 
 #[test]
-fn the_example_with_a_byte_changed_is_as_document_01_says() {
+fn the_example_with_a_byte_changed_is_as_the_format_page_says() {
     let mut log = example();
     log[40_000] ^= 1;
     let changed = fed(tool().args(["verify", "-"]), &log);

@@ -32,7 +32,7 @@ pub fn of_next(answer: Next, log: &[u8]) -> [u64; 10] {
     }
 }
 
-/// "Words without a meaning below are 0" (docs/FORMAT.md, §10.1).
+/// Words without a meaning are 0 (docs/FORMAT.md, §10.1).
 fn words(named: &[usize]) -> [u64; 10] {
     array::from_fn(|i| named.get(i).map_or(0, |&word| word as u64))
 }

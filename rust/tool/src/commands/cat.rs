@@ -87,7 +87,7 @@ fn missing(source: &Source, number: usize, found: usize, doubt: usize) -> Troubl
         ),
     };
     let (number, there) = (grouped(number), records(found));
-    let what = format!("there is no record {number}: only {there} can be read{doubt}");
+    let what = format!("no record {number} can be read; only {there} can be read{doubt}");
     Trouble::of(source.name(), &what)
 }
 

@@ -3,7 +3,7 @@
 use super::expect::{block_numbers, numbers, Found, Gap};
 use reference::log::BLOCK;
 
-/// As document 01 names the reasons.
+/// As docs/FORMAT.md names the reasons, §4.7.
 const NAMES: [&str; 7] = [
     "bad length",
     "blank",
@@ -100,8 +100,8 @@ pub fn check_heading(line: &str, gap: &Gap, found: &Found) {
             ", between record ",
             vec![gap.before, before.end, gap.before + 1, after.start],
         ),
-        (None, Some(after)) => (", before the first record, ", vec![after.start]),
-        (Some(before), None) => (", after the last record, ", vec![gap.before, before.end]),
+        (None, Some(after)) => (", before the first readable record, ", vec![after.start]),
+        (Some(before), None) => (", after the last readable record, ", vec![gap.before, before.end]),
         (None, None) => (", from the first byte to the last", vec![]),
     };
     let mut expected = vec![gap.bytes()];

@@ -47,7 +47,7 @@ pub fn for_one(finding: &Finding, screen: Screen) -> Page {
 fn unreadable(finding: &Finding) -> String {
     let then = match finding.survey.torn() {
         Some(0) => {
-            "If it is one, most often its first record was being written when the power went."
+            "If it is one, its first record may have been written just when the power went."
         }
         _ => "If it is one, ask for another copy of it.",
     };
@@ -64,7 +64,7 @@ fn by_case(survey: &Survey) -> Vec<String> {
     let mut sentences = Vec::new();
     if reasons().any(|reason| reason != Reason::OverLimit) {
         sentences.push(format!(
-            "What was written in {} can't be read, and nobody can tell how many records that is. One of them may have \
+            "Nothing of {} is handed out, and nobody can tell how many records were written there. One of them may have \
              been newer than a record before it, and have replaced it, as new factors or a new start list do. Do not \
              rely on what may have been replaced: ask for another copy of the journal, or ask whoever wrote it.",
             if survey.gaps.len() > 1 { "the gaps" } else { "the gap" }
@@ -78,8 +78,8 @@ fn by_case(survey: &Survey) -> Vec<String> {
     }
     if survey.torn().is_some() {
         sentences.push(
-            "Its end is torn: most often that is the record that was being written when the power went. Damage in the \
-             last block can look the same, so see whether the last record that can be read is the one you expect. To \
+            "Its end is torn: that may be the record that was being written when the power went. Damage in the last \
+             block can look the same, so see whether the last record that can be read is the one you expect. To \
              go on, begin a new journal."
                 .into(),
         );
