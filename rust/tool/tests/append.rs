@@ -5,7 +5,7 @@ mod common;
 
 use common::damage::{mixed_log, small_logs};
 use common::expect::{add, count, grouped, longest_log, written, Found};
-use common::files::{as_nobody, left_out, Folder};
+use common::files::{as_nobody, in_advice, left_out, Folder};
 use common::random::Random;
 use common::report::check_verdict;
 use common::{fed, finish, tool, Ran};
@@ -125,7 +125,7 @@ fn a_journal_in_doubt_is_refused_and_left_as_it_is() {
         let file = folder.file("times", &log);
         let ran = append(&file, b"more");
         assert_eq!((ran.status, ran.text()), (Some(1), ""));
-        let (verify, another) = (file.display(), folder.join("times-2"));
+        let (verify, another) = (in_advice(&file), in_advice(&folder.join("times-2")));
         let begin = format!("{}: nothing was appended", file.display());
         let said: Vec<&str> = ran.err.lines().collect();
         let verdict = said[0].strip_prefix(&format!("mellansko: {begin}"));
@@ -136,10 +136,7 @@ fn a_journal_in_doubt_is_refused_and_left_as_it_is() {
         assert_eq!(
             said[1..],
             [
-                format!(
-                    "mellansko: to begin another journal: mellansko append --new {}",
-                    another.display()
-                ),
+                format!("mellansko: to begin another journal: mellansko append --new {another}"),
                 format!("mellansko: to see what is in doubt: mellansko verify {verify}"),
             ]
         );

@@ -5,7 +5,7 @@ mod common;
 
 use common::damage::{long_logs, mixed_log};
 use common::expect::{grouped, written, Found};
-use common::files::Folder;
+use common::files::{in_advice, Folder};
 use common::random::Random;
 use common::terminal::{is_there, ran_on};
 use common::tool;
@@ -164,7 +164,7 @@ fn a_terminal_is_given_nothing_that_it_would_obey() {
         let said = text.strip_prefix(shown).expect(shown);
         assert_eq!(said.starts_with("mellansko: bytes that"), changed, "{said}");
         assert_eq!(said.is_empty(), !changed, "{said}");
-        let advice = format!("cat {} {number} > record-{number}\n", file.display());
+        let advice = format!("cat {} {number} > record-{number}\n", in_advice(&file));
         assert!(!changed || said.ends_with(&advice), "{said}");
         // To a pipe it is the record itself.
         assert_eq!(run!("cat", &file, &number).done().out, record);

@@ -4,7 +4,7 @@
 mod common;
 
 use common::expect::{count, dumped, longest_log, written, Found};
-use common::files::{as_nobody, release, Folder};
+use common::files::{as_nobody, in_advice, release, Folder};
 use common::{fed, ran, tool, Ran};
 use std::ffi::OsString;
 use std::fs;
@@ -114,7 +114,7 @@ fn each_refuses(file: &Path, name: &str) {
         let dump = command.get_args().any(|word| word == "dump");
         let ran = ran(&mut command);
         assert_eq!(ran.text(), if dump { "X 1\n" } else { "" });
-        let file = file.display();
+        let file = in_advice(file);
         let advice = format!("head -c 16777216 {file} | mellansko verify -");
         ran.complained(
             2,

@@ -5,7 +5,7 @@
 mod common;
 
 use common::expect::{numbers, written, Found};
-use common::files::Folder;
+use common::files::{in_advice, Folder};
 use common::report::check;
 use common::terminal::{is_there, ran_on};
 use common::{fed, ran, tool};
@@ -133,6 +133,7 @@ fn of_more_than_twenty_gaps_the_first_twenty_are_listed() {
         assert_eq!(numbers(said), [more, bytes], "{said}");
         assert!(said.starts_with("And ") && how == "To see all of them:");
         // That is what lists them.
+        let name = in_advice(&file);
         assert_eq!(command, format!("    mellansko verify --all {name}"));
     }
 }

@@ -61,6 +61,15 @@ impl Drop for Folder {
     }
 }
 
+/// A name as it stands in advice: the folder of the tests may be called anything.
+pub fn in_advice(path: &Path) -> String {
+    let name = path.to_str().expect("UTF-8");
+    match name.contains([' ', '\'', '(', ')', '&', '~', '#', '!', '$']) {
+        true => format!("'{}'", name.replace('\'', "'\\''")),
+        false => name.to_string(),
+    }
+}
+
 /// Says why a part of a test was left out.
 pub fn left_out(why: &str) {
     writeln!(io::stderr(), "LEFT OUT: {why}").expect("standard error");
