@@ -101,7 +101,10 @@ pub fn check_heading(line: &str, gap: &Gap, found: &Found) {
             vec![gap.before, before.end, gap.before + 1, after.start],
         ),
         (None, Some(after)) => (", before the first readable record, ", vec![after.start]),
-        (Some(before), None) => (", after the last readable record, ", vec![gap.before, before.end]),
+        (Some(before), None) => (
+            ", after the last readable record, ",
+            vec![gap.before, before.end],
+        ),
         (None, None) => (", from the first byte to the last", vec![]),
     };
     let mut expected = vec![gap.bytes()];

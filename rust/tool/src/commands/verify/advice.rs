@@ -46,9 +46,7 @@ pub fn for_one(finding: &Finding, screen: Screen) -> Page {
 /// Where no record can be read.
 fn unreadable(finding: &Finding) -> String {
     let then = match finding.survey.torn() {
-        Some(0) => {
-            "If it is one, its first record may have been written just when the power went."
-        }
+        Some(0) => "If it is one, its first record may have been written just when the power went.",
         _ => "If it is one, ask for another copy of it.",
     };
     format!(
