@@ -2,7 +2,8 @@
  * Appends a record, from standard input or from the command line, to a journal in a file.
  *
  *   cc -std=c99 -Iinclude examples/append_file.c target/staticlib/libmellansko.a -o append_file &&
- *   : >new.log && ./append_file new.log 'LW10-1 0.9137' && ./append_file new.log <record
+ *   : >new.log && ./append_file new.log 'LW10-1 0.9137' &&
+ *   printf 'LW11 0.8412' | ./append_file new.log
  *
  * It holds one block and a record's room in memory, and not the file: what an append adds depends
  * on the record and on the mark's place in its block alone (docs/FORMAT.md 3.9). So it appends in a
@@ -23,6 +24,7 @@
 #include <errno.h>
 #include <fcntl.h>
 #include <inttypes.h>
+#include <signal.h>
 #include <stdio.h>
 #include <string.h>
 #include <sys/file.h>
@@ -136,6 +138,8 @@ int main(int count, char **words)
     }
     if (!read_record(count == 3 ? words[2] : NULL, &length))
         return 2;
+    /* A write above the size that files may have then fails, and does not end the program. */
+    signal(SIGXFSZ, SIG_IGN);
     file = open(words[1], O_WRONLY);
     if (file < 0) {
         fail(words[1], strerror(errno));

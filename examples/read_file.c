@@ -40,7 +40,7 @@ static int read_file(const char *name, size_t *length)
 }
 
 /* Prints each answer, up to the end, and gives the status. */
-static int print_log(size_t length)
+static int print_log(const char *name, size_t length)
 {
     struct mellansko_answer answer;
     int status = NO_DAMAGE;
@@ -65,7 +65,7 @@ static int print_log(size_t length)
             printf("torn from %" PRIu64 " to %zu\n", answer.end.start, length);
             return IN_DOUBT;
         default: /* MELLANSKO_NEXT_REFUSED: here only of a log that is too long */
-            fprintf(stderr, "%s\n", mellansko_refusal_text(answer.refused.number));
+            fprintf(stderr, "%s: %s\n", name, mellansko_refusal_text(answer.refused.number));
             return NOT_READ;
         }
         place = answer.place;
@@ -82,7 +82,7 @@ int main(int count, char **words)
     }
     if (!read_file(words[1], &length))
         return NOT_READ;
-    status = print_log(length);
+    status = print_log(words[1], length);
     if (fflush(stdout) != 0 || ferror(stdout)) {
         fprintf(stderr, "could not be printed\n");
         return NOT_READ;

@@ -72,8 +72,8 @@
 //!   say. Where their pieces fit, a record may even be put together of those of two.
 //! - Bytes were made with a right checksum, or happen to have one: 32 bits are for accidents.
 //!
-//! A program that must have everything compares what it reads with what it expects, as how many
-//! records there are.
+//! A program that must have everything compares what it reads with what it expects: how many records
+//! there are, where the last one stands, what they say.
 //!
 //! # The archive
 //!

@@ -107,12 +107,14 @@ A torn end may be the record that was being written when the power went. A damag
 looks the same, and then records that were written to their end may lie there. A record of more than {RECORD} bytes \
 counts as in doubt too.
 
+An empty file, or no input at all, shows no damage and has no records.
+
 FILE may be - for standard input; after -- a name may begin with a dash.
 
 Exit status:
 
   0   no damage found
-  1   at least one journal is in doubt
+  1   at least one is in doubt, and all could be read
   2   at least one could not be read
 ";
 
@@ -160,7 +162,7 @@ Draws a journal, a cell for each block of {BLOCK} bytes. Before each row stands 
   -   between two cells: a record runs on from one into the other
 
   --blocks N     draw N blocks as one cell; if not given, as many as it takes for at most 16 rows
-  --color WHEN   always, never, or auto: on a terminal, unless TERM is dumb or NO_COLOR is set
+  --color WHEN   always, never, or auto: on a terminal, unless TERM is dumb or NO_COLOR is set and not empty
 
 The picture is at most as wide as the terminal; elsewhere as COLUMNS says, or 80 columns. A record of more than {RECORD} bytes \
 counts as in doubt. What no reader can tell does not show here either; mellansko verify --help lists it.
@@ -182,13 +184,13 @@ that are no text, or that it would obey, are shown by their numbers, as \\x1b, a
 the journal is in doubt, that is said on standard error: before the record, more may have been written than its number \
 says; after it, a newer one may have been lost.
 
-This writes all that can be read into a folder, a file each; put your journal's name for race.log:
+This writes all that can be read into a folder, a file each, and what is said of it into the file warnings; put your journal's name in place of race.log:
 
     file=race.log
     mkdir records
     last=$({me} dump -- \"$file\" | grep -c ^R)
     for n in $(seq $last); do
-      {me} cat -- \"$file\" $n > records/$n
+      {me} cat -- \"$file\" $n > records/$n 2>> warnings
     done
 
 FILE may be - for standard input; after -- a name may begin with a dash.
@@ -206,7 +208,7 @@ mellansko append [--new] FILE
 Appends all of standard input to a journal as one record, byte for byte, at the journal's end, and says where it \
 stands. A journal in which something is in doubt is refused and left as it is, since a record after that might not be \
 found again: begin another. What the file holds is never overwritten; if a write fails, what it added is cut off \
-again, and a new file is removed. While one append is at work, another is refused.
+again, and a new file is removed. While one append writes, another is refused.
 
   --new   begin a new journal; refused if the file is there already
 

@@ -108,7 +108,7 @@ pub fn why_refused(refusal: Refusal, file: &OsStr) -> String {
         Condition::LogTooLong => (
             format!("it is longer than {log} bytes, the most that a journal may have"),
             format!(
-                ". Nothing of it was judged; for what its beginning holds, with an end that will look torn, run: {}",
+                ". Nothing of it was judged; for what its beginning holds, with an end that may look torn, run: {}",
                 only_beginning(file)
             ),
         ),

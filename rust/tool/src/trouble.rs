@@ -48,13 +48,14 @@ pub fn in_words(error: &io::Error) -> String {
         io::ErrorKind::NotADirectory => {
             "a part of the name before a slash is no folder. Check the name"
         }
-        io::ErrorKind::PermissionDenied => {
-            "permission is denied. Ask the file's owner, or copy it to where it is allowed"
-        }
+        io::ErrorKind::PermissionDenied => "permission is denied. Ask the file's owner",
         io::ErrorKind::ReadOnlyFilesystem => {
             "it is on a disk that can only be read. Copy it to another, and use the copy"
         }
         io::ErrorKind::StorageFull => "the disk is full. Make room, and try again",
+        io::ErrorKind::FileTooLarge => {
+            "files may not get that long here. Ask whoever set the limit"
+        }
         _ => return error.to_string(),
     };
     words.into()

@@ -260,7 +260,9 @@ fn the_loop_of_cat_s_help_can_be_typed() {
             .replacen("race.log", &format!("'{file}'"), 1);
         // Each record is given, with the warning that some bytes are in doubt.
         let ran = typed(&script, &folder, b"").expect("a shell");
-        assert_eq!(ran.err.lines().count(), found.records.len(), "{}", ran.err);
+        assert_eq!(ran.err, "");
+        let warnings = fs::read_to_string(folder.join("warnings")).expect("the warnings");
+        assert_eq!(warnings.lines().count(), found.records.len(), "{warnings}");
         for (i, (_, record)) in found.records.iter().enumerate() {
             let written = fs::read(folder.join("records").join((i + 1).to_string()));
             assert!(written.expect("a record") == *record, "record {}", i + 1);

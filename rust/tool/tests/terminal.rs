@@ -200,6 +200,15 @@ fn a_record_can_be_typed() {
     let mut command = tool();
     command.args(["append", "--new"]).arg(&file).stdin(far);
     common::ran(&mut command).failed(2, &["already"]);
+    // So does a doubt.
+    let doubtful = folder.file("doubtful", b"doubt");
+    let (_near, far) = terminal();
+    let mut command = tool();
+    command.arg("append").arg(&doubtful).stdin(far);
+    let ran = common::ran(&mut command);
+    assert_eq!((ran.status, ran.text()), (Some(1), ""));
+    assert!(!ran.err.contains("Ctrl-D"), "{}", ran.err);
+    ran.warned(&["nothing was appended", "IN DOUBT"]);
 }
 
 #[test]

@@ -209,7 +209,7 @@ fn a_file_that_may_not_grow_is_cut_back() {
     for way in folder.there(&[C]) {
         let program = folder.program(way, &root().join("examples/append_file.c"));
         // 64 times 512 bytes.
-        let limited = "trap '' XFSZ && ulimit -f 64 && exec \"$0\" \"$1\"";
+        let limited = "ulimit -f 64 && exec \"$0\" \"$1\"";
         let mut shell = Command::new("sh");
         shell.args(["-c", limited]).arg(program).arg(&file);
         let ran = run(&mut shell, &some_bytes(5_000, 7));

@@ -60,7 +60,10 @@ impl Given {
             None => (text, None),
         };
         let Some(&name) = known.iter().find(|&&option| option == name) else {
-            return Err(self.wrong(&format!("there is no option {}", shown(OsStr::new(name)))));
+            let name = shown(OsStr::new(name));
+            let why =
+                format!("there is no option {name}; after -- a file's name may begin with a dash");
+            return Err(self.wrong(&why));
         };
         let value = match (name, value) {
             (name, None) if SWITCHES.contains(&name) => OsString::new(),

@@ -16,28 +16,27 @@ use crate::words::{bytes, from_to, grouped, shown};
 use crate::Status;
 use mellansko::{Next, Record, Refusal, LONGEST_LOG, LONGEST_RECORD};
 use std::ffi::{OsStr, OsString};
-use std::io::{self, Write};
+use std::io::{self, IsTerminal, Write};
 
 pub fn append(path: &OsString, new: bool) -> Result<Status, Trouble> {
-    // Before the record is read, so that a wrong name shows before it is typed; and again after it,
-    // since by then the name may stand for another file.
-    file::found(path, new)?;
+    // Before the record is read, so that a wrong name or a doubt shows before it is typed; and again
+    // after it, since by then the name may stand for another file.
+    if let Some(file) = file::found(path, new)? {
+        if io::stdin().is_terminal() && sound(&file::held(&file, path)?, path)?.is_none() {
+            return Ok(Status::Doubt);
+        }
+    }
     let record = record_from_input()?;
     let old = file::found(path, new)?;
     let mut log = match &old {
         Some(file) => file::taken(file, path)?,
         None => Vec::new(),
     };
-    let mut progress = Progress::new();
-    let refused = |refusal| file::nothing_appended(path, &why_refused(refusal, path));
-    let survey = Survey::of(&log, path, &mut progress).map_err(refused)?;
-    drop(progress);
-    if survey.status() != Status::Done {
-        tell_doubt(path, &survey);
+    let Some(survey) = sound(&log, path)? else {
         return Ok(Status::Doubt);
-    }
+    };
     let used = log.len();
-    let written = write(&mut log, &record).map_err(refused)?;
+    let written = write(&mut log, &record).map_err(|refusal| refused(path, refusal))?;
     file::store(old, path, used, &log[used..written.end])?;
     say(&format!(
         "{}: record {} appended, of {}, as {}.",
@@ -47,6 +46,21 @@ pub fn append(path: &OsString, new: bool) -> Result<Status, Trouble> {
         from_to(written.start, written.end)
     ));
     Ok(Status::Done)
+}
+
+fn refused(path: &OsStr, refusal: Refusal) -> Trouble {
+    file::nothing_appended(path, &why_refused(refusal, path))
+}
+
+/// What is in the log, if nothing is in doubt there; if something is, that is told.
+fn sound(log: &[u8], path: &OsStr) -> Result<Option<Survey>, Trouble> {
+    let survey = Survey::of(log, path, &mut Progress::new());
+    let survey = survey.map_err(|refusal| refused(path, refusal))?;
+    if survey.status() == Status::Done {
+        return Ok(Some(survey));
+    }
+    tell_doubt(path, &survey);
+    Ok(None)
 }
 
 fn tell_doubt(path: &OsStr, survey: &Survey) {
@@ -73,7 +87,8 @@ fn say(line: &str) {
 }
 
 fn record_from_input() -> Result<Vec<u8>, Trouble> {
-    let prompt = "type the record, and end it with Ctrl-D on a line of its own";
+    let prompt =
+        "type the record, and end it with Ctrl-D on a line of its own; its last line break is a part of it";
     journal::read_input(prompt, LONGEST_RECORD, &mut Progress::new())
 }
 

@@ -6,7 +6,7 @@ use crate::shell::typed;
 use crate::trouble::{in_words, Trouble};
 use crate::words::{grouped, shown};
 use mellansko::LONGEST_LOG;
-use std::ffi::OsStr;
+use std::ffi::{c_int, OsStr};
 use std::fs::{self, File, OpenOptions, TryLockError};
 use std::io::{self, Write};
 use std::os::unix::fs::MetadataExt;
@@ -97,6 +97,12 @@ fn lock(file: &File, path: &OsStr) -> Result<(), Trouble> {
     }
 }
 
+/// What the file holds at this moment.
+pub fn held(file: &File, path: &OsStr) -> Result<Vec<u8>, Trouble> {
+    let log = journal::read(file, path, LONGEST_LOG, &mut Progress::new());
+    log.map_err(|error| Trouble::io(path, "be read", &error))
+}
+
 /// What the file holds, which no other append changes until this one ends.
 pub fn taken(file: &File, path: &OsStr) -> Result<Vec<u8>, Trouble> {
     lock(file, path)?;
@@ -107,7 +113,7 @@ pub fn taken(file: &File, path: &OsStr) -> Result<Vec<u8>, Trouble> {
         let why = "another file has its name by now. Try again";
         return Err(nothing_appended(path, why));
     }
-    journal::read(file, path, LONGEST_LOG, &mut Progress::new()).map_err(trouble)
+    held(file, path)
 }
 
 /// Puts the added bytes after those that the file has; it gets all of them or none.
@@ -154,6 +160,7 @@ fn begun(path: &OsStr) -> Result<File, Trouble> {
 
 /// After what the file holds, and down to the disk; a new file's name too.
 fn put(mut file: &File, path: &OsStr, added: &[u8], new: bool) -> io::Result<()> {
+    outlive_a_limit();
     file.write_all(added)?;
     file.sync_all()?;
     match new.then(|| File::open(folder_of(path))) {
@@ -162,4 +169,19 @@ fn put(mut file: &File, path: &OsStr, added: &[u8], new: bool) -> io::Result<()>
         Some(Err(error)) if error.kind() != io::ErrorKind::PermissionDenied => Err(error),
         _ => Ok(()),
     }
+}
+
+extern "C" {
+    fn signal(number: c_int, handler: usize) -> usize;
+}
+
+/// The signal of a write above the size that files may have, and the wish to hear nothing of it, on
+/// Linux.
+const SIGXFSZ: c_int = 25;
+const SIG_IGN: usize = 1;
+
+/// Such a write then fails, and is taken back, instead of ending the tool halfway.
+fn outlive_a_limit() {
+    // Safe: nothing is called when the signal comes.
+    unsafe { signal(SIGXFSZ, SIG_IGN) };
 }
