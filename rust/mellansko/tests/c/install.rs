@@ -114,10 +114,10 @@ fn all_is_installed_and_can_be_used() {
     // What is up to date is not made again, and a package is put together elsewhere.
     let staged = copy.path("staged");
     let mut again = copy.install();
-    let printed = succeeded(again.env("DESTDIR", &staged).arg("/opt/ours"));
+    let printed = succeeded(again.env("DESTDIR", &staged).arg("/srv/ours"));
     assert_eq!(copy.calls(), "staticlib mellansko\n");
-    assert_eq!(found(&staged.join("opt/ours")), FILES);
-    let command = "\n  cc -std=c99 program.c $(PKG_CONFIG_PATH=/opt/ours/lib/pkgconfig pkg-config \
+    assert_eq!(found(&staged.join("srv/ours")), FILES);
+    let command = "\n  cc -std=c99 program.c $(PKG_CONFIG_PATH=/srv/ours/lib/pkgconfig pkg-config \
                    --cflags --libs mellansko) -o program\n";
     assert!(printed.ends_with(command), "{printed}");
     replaces_all_or_nothing(&copy);
