@@ -190,7 +190,7 @@ This writes all that can be read into a folder, a file each, and what is said of
     mkdir records
     last=$({me} dump -- \"$file\" | grep -c ^R)
     for n in $(seq $last); do
-      {me} cat -- \"$file\" $n > records/$n 2>> warnings
+      {me} cat -- \"$file\" $n >records/$n 2>>warnings
     done
 
 FILE may be - for standard input; after -- a name may begin with a dash.
