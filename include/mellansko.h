@@ -3,8 +3,8 @@
  *
  * A log is bytes that the caller lends, in blocks of 32,768 from the first on. A record is 0 to
  * 262,144 bytes of the caller's. It is stored as one or more fragments, each a header of 7 bytes
- * and then data; none crosses a block's end, and fewer than 7 bytes before one are a trailer, no
- * part of a record. A record's span is the range of its fragments, their headers included.
+ * and then data. None crosses a block's end; if fewer than 7 bytes are left before it, they are a
+ * trailer, no part of a record. A record's span is the range of its fragments, headers included.
  * docs/FORMAT.md has the rules, and numbers here, as 3.7, are that page's.
  *
  * The mark is how many bytes of a log are used: mellansko_append writes a record there and answers

@@ -106,7 +106,7 @@ impl fmt::Display for Skip {
 #[derive(Clone, Copy, Debug, PartialEq, Eq, Hash)]
 #[must_use = "the log's tail may be in doubt"]
 pub enum Tail {
-    /// Nothing is begun and not finished. So ends a log that was cut between two records, too.
+    /// Nothing is begun and not finished. A log that was cut between two records ends so too.
     Clean,
     /// The log ends inside of what starts at this place. That may be a record that was being written.
     /// But a damaged length in the last block looks the same, and then records that were written

@@ -9,14 +9,8 @@ use std::path::{Path, PathBuf};
 use std::process::{Command, Output, Stdio};
 
 /// With the faults of tests/c/faults.c.
-const FAULTS: Way = &[
-    "cc",
-    "-std=c99",
-    "-Wall",
-    "-Wextra",
-    "-Werror",
-    "-Wl,--wrap=pwrite,--wrap=fsync,--wrap=ftruncate",
-];
+const FAULTS: Way =
+    "cc -std=c99 -Wall -Wextra -Werror -Wl,--wrap=pwrite,--wrap=fsync,--wrap=ftruncate";
 
 /// The samples, the texts beside them, and nothing.
 #[test]

@@ -6,62 +6,17 @@ use std::path::{Path, PathBuf};
 use std::process::{self, Command, Output};
 use std::{fs, thread};
 
-/// A compiler and its options.
-pub type Way = &'static [&'static str];
+/// A compiler and its options, as one types them.
+pub type Way = &'static str;
 
-pub const C: Way = &["cc", "-std=c99", "-Wall", "-Wextra", "-pedantic", "-Werror"];
-pub const CLANG: Way = &[
-    "clang",
-    "-std=c99",
-    "-Wall",
-    "-Wextra",
-    "-pedantic",
-    "-Werror",
-];
-pub const SANITIZED: Way = &[
-    "cc",
-    "-std=c99",
-    "-fsanitize=address,undefined",
-    "-fno-sanitize-recover=all",
-];
-pub const CPP: Way = &[
-    "c++",
-    "-x",
-    "c++",
-    "-Wall",
-    "-Wextra",
-    "-pedantic",
-    "-Werror",
-];
-pub const CLANG_CPP: Way = &[
-    "clang++",
-    "-x",
-    "c++",
-    "-Wall",
-    "-Wextra",
-    "-pedantic",
-    "-Werror",
-];
-pub const OLD_CPP: Way = &[
-    "c++",
-    "-x",
-    "c++",
-    "-std=c++98",
-    "-Wall",
-    "-Wextra",
-    "-pedantic",
-    "-Werror",
-];
+pub const C: Way = "cc -std=c99 -Wall -Wextra -pedantic -Werror";
+pub const CLANG: Way = "clang -std=c99 -Wall -Wextra -pedantic -Werror";
+pub const SANITIZED: Way = "cc -std=c99 -fsanitize=address,undefined -fno-sanitize-recover=all";
+pub const CPP: Way = "c++ -x c++ -Wall -Wextra -pedantic -Werror";
+pub const CLANG_CPP: Way = "clang++ -x c++ -Wall -Wextra -pedantic -Werror";
+pub const OLD_CPP: Way = "c++ -x c++ -std=c++98 -Wall -Wextra -pedantic -Werror";
 /// As if by a compiler that is not GNU's, of which the header then knows only the language.
-pub const PLAIN_CPP: Way = &[
-    "c++",
-    "-x",
-    "c++",
-    "-std=c++17",
-    "-U__GNUC__",
-    "-Wall",
-    "-Werror",
-];
+pub const PLAIN_CPP: Way = "c++ -x c++ -std=c++17 -U__GNUC__ -Wall -Werror";
 
 /// A folder for one test's files, removed with it if it succeeds.
 pub struct Folder(pub PathBuf);
@@ -94,7 +49,7 @@ impl Folder {
         let works = matches!(made, Ok(made) if made.status.success())
             && matches!(Command::new(program).output(), Ok(run) if run.status.success());
         if !works {
-            left_out(&way.join(" "));
+            left_out(way);
         }
         works
     }
@@ -139,11 +94,9 @@ impl Drop for Folder {
 }
 
 fn compiler(way: Way) -> Command {
-    let mut command = Command::new(way[0]);
-    command
-        .args(&way[1..])
-        .arg("-I")
-        .arg(root().join("include"));
+    let mut words = way.split(' ');
+    let mut command = Command::new(words.next().expect("a compiler"));
+    command.args(words).arg("-I").arg(root().join("include"));
     command
 }
 
