@@ -1,0 +1,3 @@
+pub mod Seeing
+pub mod Putting
+pub mod Turning
