@@ -1,6 +1,6 @@
 // The calls for C and Rust. Each only hands on to the call of the crate that does the work, and says its answer in
 // numbers: docs/FORMAT.md, §10.1.
-mod numbers;
+mod feed;
 
 ghost use mathlib.Core.Path.{_≡_};
 ghost use lib.ListN.{length};
@@ -38,7 +38,7 @@ pub extern "C" fn mellansko_append(
     ensures { λ _. ⌜ now (answer .exit) ≡ appendedNumbers (appendOf firstEdition (now (log .entry)) mark (now («record» .entry)) .answer) ⌝ }
     ensures { λ _. ⌜ now (log .exit) ≡ appendOf firstEdition (now (log .entry)) mark (now («record» .entry)) .log ⌝ }
 {
-    let appended = numbers::appended(log_writer::append(log, mark, record));
+    let appended = answer_numbers::appended(log_writer::append(log, mark, record));
     *answer = appended;
     appended[0]
 }
@@ -56,7 +56,7 @@ pub extern "C" fn mellansko_next(
     ensures { λ _. ⌜ now (answer .exit) ≡ nextNumbers (length (now (log .entry))) (nextOf firstEdition (now (log .entry)) place limit (now (buffer .entry)) .answer) ⌝ }
     ensures { λ _. ⌜ now (buffer .exit) ≡ nextOf firstEdition (now (log .entry)) place limit (now (buffer .entry)) .buffer ⌝ }
 {
-    let next = numbers::next(log.len(), log_reader::next(log, place, limit, buffer));
+    let next = answer_numbers::next(log.len(), log_reader::next(log, place, limit, buffer));
     *answer = next;
     next[0]
 }

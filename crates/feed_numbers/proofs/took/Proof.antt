@@ -1,9 +1,9 @@
 -- Case by case. Assumes nothing.
 use mathlib.Core.Path.{sym, ap, _∙_}
 use borrow.Author.Needs.{needs}
-use Rattle.log_format.specs.Format.Numbers.{appendedNumbers}
-use Rattle.mellansko.proofs.numbers.appended.Statement.{statement}
-use Rattle.mellansko.proofs.numbers.appended.Tie as tie
+use Rattle.feed_format.specs.Format.Numbers.{tookNumbers}
+use Rattle.feed_numbers.proofs.took.Statement.{statement}
+use Rattle.feed_numbers.proofs.took.Tie as tie
 
 enum-known-answer : tie.Need-enum-known-answer
 enum-known-answer c = search needs
@@ -15,11 +15,11 @@ refused-requires : tie.Need-refused-requires
 refused-requires c κs = search needs
 
 returns : tie.Need-returns
-returns c = sym (ap appendedNumbers (c .before .answer .given .1))
+returns c = sym (ap tookNumbers (c .before .answer .given .1))
 
 returns-2 : tie.Need-returns-2
-returns-2 c = c .refused .ensures ∙ sym (ap appendedNumbers (c .before .before .answer2 .given .1))
+returns-2 c = c .refused .ensures ∙ sym (ap tookNumbers (c .before .before .answer2 .given .1))
 
-pub appended-spec : {M : Type 1} → statement M
-appended-spec =
+pub took-spec : {M : Type 1} → statement M
+took-spec =
     tie.close (tie.spec enum-known-answer enum-known-answer-2 refused-requires returns returns-2)

@@ -3,8 +3,8 @@ use mathlib.Core.Path.{sym, ap, _∙_}
 use borrow.Author.Needs.{needs}
 use Rattle.log_format.specs.Format.Numbers.{nextNumbers}
 use Rattle.log_format.specs.declared.Next.the-variants as N
-use Rattle.mellansko.proofs.numbers.next.Statement.{statement}
-use Rattle.mellansko.proofs.numbers.next.Tie as tie
+use Rattle.answer_numbers.proofs.next.Statement.{statement}
+use Rattle.answer_numbers.proofs.next.Tie as tie
 
 enum-known-answer : tie.Need-enum-known-answer
 enum-known-answer c = search needs

@@ -1,7 +1,7 @@
 -- Whole or gathered. Assumes nothing.
 use borrow.Author.Needs.{needs}
-use Rattle.mellansko.proofs.numbers.handed.Statement.{statement}
-use Rattle.mellansko.proofs.numbers.handed.Tie as tie
+use Rattle.answer_numbers.proofs.handed.Statement.{statement}
+use Rattle.answer_numbers.proofs.handed.Tie as tie
 
 enum-known-stored : tie.Need-enum-known-stored
 enum-known-stored c = search needs

@@ -1,8 +1,8 @@
 -- Number by number. Assumes nothing.
 use mathlib.Core.Path.{refl}
 use borrow.Author.Needs.{needs}
-use Rattle.mellansko.proofs.numbers.refused.Statement.{statement}
-use Rattle.mellansko.proofs.numbers.refused.Tie as tie
+use Rattle.answer_numbers.proofs.refused.Statement.{statement}
+use Rattle.answer_numbers.proofs.refused.Tie as tie
 
 cast-t3 : tie.Need-cast-t3
 cast-t3 c = search needs

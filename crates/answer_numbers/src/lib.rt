@@ -60,7 +60,8 @@ fn handed(record: Record) -> [u64; 10]
     }
 }
 
-fn refused(kind: u64, refusal: Refusal) -> [u64; 10]
+// kind: that of a refusal among the call's answers.
+pub fn refused(kind: u64, refusal: Refusal) -> [u64; 10]
     ensures { λ r. ⌜ r ≡ numbers.refusedNumbers kind refusal ⌝ }
 {
     [
