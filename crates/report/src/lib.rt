@@ -1,11 +1,14 @@
 // The steps that the programs run_edges, run_example and run_reasons are lists of: calls of the writer and the reader, with the
-// lines that tell what they answer, and changes of bytes, which write no line.
+// lines that tell what they answer, and changes of bytes, which write no line. What writes words and numbers serves run_feed as well.
 //
 // No contract can say what is written. rust/reference has the same steps, and what it writes is what the programs are held to.
 mod call;
 mod fill;
 mod line;
 
+pub use line::number;
+pub use line::text;
+pub use line::three;
 ghost use Prim.Native.Nat.{_<_, _≤_};
 use log_format::Next;
 use log_format::Record;

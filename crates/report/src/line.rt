@@ -52,9 +52,7 @@ pub fn sum(name: &[u8], bytes: &[u8]) {
 }
 
 fn handed(record: Record, bytes: &[u8]) {
-    number(b"record ", record.start);
-    number(b" ", record.end);
-    number(b" ", record.length);
+    three(b"record ", record.start, record.end, record.length);
     let stored = record.stored;
     match stored {
         Stored::Whole(place) => number(b" whole ", place),
@@ -64,9 +62,7 @@ fn handed(record: Record, bytes: &[u8]) {
 }
 
 fn skipped(skip: Skip) {
-    number(b"skip ", skip.start);
-    number(b" ", skip.end);
-    number(b" ", skip.reason as usize);
+    three(b"skip ", skip.start, skip.end, skip.reason as usize);
     text(b"\n");
 }
 
@@ -83,11 +79,17 @@ fn refused(words: &[u8], refusal: Refusal) {
     number(b" ", refusal.given);
 }
 
-fn number(words: &[u8], n: usize) {
+pub fn three(words: &[u8], a: usize, b: usize, c: usize) {
+    number(words, a);
+    number(b" ", b);
+    number(b" ", c);
+}
+
+pub fn number(words: &[u8], n: usize) {
     text(words);
     io::print_decimal(STDOUT_FILENO, n as u64);
 }
 
-fn text(words: &[u8]) {
+pub fn text(words: &[u8]) {
     io::write_all(STDOUT_FILENO, words);
 }
