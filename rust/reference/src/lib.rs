@@ -3,6 +3,7 @@
 //! held to.
 
 mod crc32c;
+pub mod feed;
 pub mod log;
 pub mod runs;
 pub mod samples;

@@ -1,7 +1,8 @@
 //! The figures and examples of docs/FORMAT.md, held to this implementation: each is worked out here
 //! and must stand on the page as it comes out.
 
-use reference::log::{append, next, Appended, Next, Stored, Tail};
+use reference::feed::{self, Told};
+use reference::log::{append, next, Appended, Next, Stored, Tail, BLOCK};
 use reference::{crc32c, mask};
 
 const PAGE: &str = include_str!("../../../docs/FORMAT.md");
@@ -272,5 +273,75 @@ fn small_logs() {
                 .collect(),
         };
         assert_eq!(told(&log, 100).join("; "), row[1], "{row:?}");
+    }
+}
+
+/// The moments of §11.13, for pieces of several lengths: each answer comes with the piece that has
+/// the byte, and with single bytes right at the figure.
+#[test]
+fn fed_in_pieces() {
+    let text = part("§11.13", "**§11.14**");
+    says(&text, "at limit 24,576");
+    let records = [1_000, 97_270, 8_000].map(|length| vec![7; length]);
+    let (log, _) = written(&records.each_ref().map(Vec::as_slice));
+    let rows = rows("§11.13");
+    for length in [1, 1_007, 5_000, 32_768, 200_000] {
+        let told = fed(&log, 24_576, length);
+        assert_eq!(told.len(), rows.len());
+        for ((answer, came), row) in told.iter().zip(&rows) {
+            assert_eq!(answer, &row[0]);
+            let (moment, announced) = match row[1].split_once(", and ") {
+                Some((moment, words)) => (moment, Some(words)),
+                None => (row[1].as_str(), None),
+            };
+            let moment = moment.replace(',', "").parse::<usize>().expect("a number");
+            // A piece is taken in parts where a block ends.
+            assert!((moment..moment + length).contains(came), "{row:?}, {came}");
+            assert!(length > 1 || *came == moment, "{row:?}, {came}");
+            let end = (answer == "end, clean").then_some("the end is announced");
+            assert_eq!(announced, end);
+        }
+    }
+}
+
+/// What is told of a log fed in pieces of a length, and how many bytes had come by then.
+fn fed(log: &[u8], limit: usize, length: usize) -> Vec<(String, usize)> {
+    let mut state = feed::begin(limit as u64).expect("a limit");
+    let (mut block, mut buffer) = ([0; BLOCK], vec![0; limit]);
+    let mut told = Vec::new();
+    for piece in log.chunks(length) {
+        let mut rest = piece;
+        while !rest.is_empty() {
+            let taken = feed::take(&mut state, &mut block, rest).expect("not refused");
+            assert!(taken > 0, "no room");
+            rest = &rest[taken..];
+            while let Told::Answer(answer) = feed::next(&mut state, &block, &mut buffer) {
+                assert!(!matches!(answer, Next::End(_)), "not announced");
+                told.push((fed_line(answer), state.came as usize));
+            }
+        }
+    }
+    feed::end(&mut state);
+    let Told::Answer(answer) = feed::next(&mut state, &block, &mut buffer) else {
+        panic!("the end is announced");
+    };
+    told.push((fed_line(answer), state.came as usize));
+    told
+}
+
+fn fed_line(answer: Next) -> String {
+    match answer {
+        Next::Record {
+            start, end, length, ..
+        } => {
+            let [start, end, length] = [start, end, length].map(grouped);
+            format!("record {start} to {end}, {length} bytes")
+        }
+        Next::Skip { start, end, reason } => {
+            let [start, end] = [start, end].map(grouped);
+            format!("skipped {start} to {end}, reason {reason}")
+        }
+        Next::End(Tail::Clean) => "end, clean".to_string(),
+        other => panic!("{other:?}"),
     }
 }

@@ -30,6 +30,14 @@ pub fn listing() -> String {
     run.lines
 }
 
+/// The example's log, whole.
+pub fn log() -> Vec<u8> {
+    let mut run = Run::new();
+    example(&mut run);
+    run.log.truncate(106_311);
+    run.log
+}
+
 /// Rows 1 to 3 of the table M, in turn.
 fn example(run: &mut Run) {
     run.append(106_311, 0, 1, 1_000);

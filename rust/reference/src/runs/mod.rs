@@ -1,8 +1,9 @@
 //! The runs whose output the proved programs are held to: lists of steps, each one call or a
-//! reading to the end, and the line or lines that it writes.
+//! reading to the end, and the line or lines that it writes; and a log read as it comes.
 
 pub mod edges;
 pub mod example;
+pub mod feed;
 pub mod reasons;
 mod trailers;
 

@@ -1,0 +1,115 @@
+//! All ways of cutting twelve bytes into pieces, at a log's start and at a block's end.
+
+use crate::fed::Fed;
+use crate::make;
+use crate::random::Random;
+use reference::feed::{self, take, Told};
+use reference::log::{fragment, Next, BLOCK, FIRST, FULL, HEADER, LAST};
+
+const CUT: usize = 12;
+
+/// Feeds the last twelve bytes in every way. What comes before them has been fed and drawn. Block
+/// and buffer are held to what they have to be when all has come.
+fn every_cutting(fed: &Fed) {
+    let mut straight = fed.clone();
+    while straight.came() < straight.log.len() {
+        straight.offer(CUT);
+        straight.draw_all();
+    }
+    straight.end();
+    straight.finish();
+    // A bit for each place between two bytes: whether there is a cut.
+    for cuts in 0..1u32 << (CUT - 1) {
+        let mut cut = fed.clone();
+        let mut from = 0;
+        for to in 1..=CUT {
+            if to == CUT || cuts >> (to - 1) & 1 == 1 {
+                piece(&mut cut, to - from);
+                from = to;
+            }
+        }
+        feed::end(&mut cut.state);
+        while !matches!(cut.answers.last(), Some(Next::End(_))) {
+            assert!(draw(&mut cut), "nothing more, though the end is announced");
+        }
+        cut.answers.pop();
+        assert_eq!(cut.answers, straight.answers);
+        assert_eq!(cut.state, straight.state);
+        assert!(cut.block == straight.block);
+        assert!(cut.buffer == straight.buffer);
+    }
+}
+
+/// A piece of the log, and then all that is certain.
+fn piece(fed: &mut Fed, length: usize) {
+    let mut rest = &fed.log[fed.came()..fed.came() + length];
+    while !rest.is_empty() {
+        let taken = take(&mut fed.state, &mut fed.block, rest).expect("not refused");
+        assert!(taken > 0, "no room, though nothing more was certain");
+        rest = &rest[taken..];
+        while draw(fed) {}
+    }
+}
+
+/// Whether there was an answer.
+fn draw(fed: &mut Fed) -> bool {
+    match feed::next(&mut fed.state, &fed.block, &mut fed.buffer) {
+        Told::Answer(answer) => {
+            let early = matches!(answer, Next::End(_)) && fed.state.over == 0;
+            assert!(!early, "an end that is not announced");
+            fed.answers.push(answer);
+            true
+        }
+        Told::NotYet => false,
+        Told::Refused(number) => panic!("refused with {number}"),
+    }
+}
+
+/// Twelve bytes of each kind: records, broken ones, bad ones, and two of any.
+fn twelves(random: &mut Random) -> Vec<Vec<u8>> {
+    let bad_sum = || {
+        let mut bad = fragment(FULL, &[7; 5]);
+        bad[11] ^= 1;
+        bad
+    };
+    vec![
+        fragment(FULL, &[7; 5]),
+        fragment(FIRST, &[7; 5]),
+        fragment(LAST, &[7; 5]),
+        [fragment(FIRST, &[]), fragment(LAST, &[])[..5].to_vec()].concat(),
+        [fragment(FIRST, &[7; 2]), vec![0; 3]].concat(),
+        [fragment(FULL, &[]), vec![0xFF; 5]].concat(),
+        [vec![0, 0, 0, 0, 0xFF, 0xFF, 1], vec![7; 5]].concat(),
+        vec![0; CUT],
+        bad_sum(),
+        make::log(random, CUT, 5),
+        make::log(random, CUT, 2),
+    ]
+}
+
+#[test]
+fn of_twelve_bytes() {
+    let random = &mut Random::new();
+    println!("{random}");
+    for twelve in twelves(random) {
+        let limit = make::pick(random, &[4, 5, 9]);
+        every_cutting(&Fed::new(random, &twelve, limit));
+    }
+}
+
+/// With a record, a FIRST or bad bytes before them, and as many of them in the next block.
+#[test]
+fn of_twelve_bytes_at_a_blocks_end() {
+    let random = &mut Random::new();
+    println!("{random}");
+    for (i, twelve) in twelves(random).iter().enumerate() {
+        let after = [0, 1, 5, 12, 9, 6][i % 6];
+        let kind = [FULL, FIRST, 9][i % 3];
+        let data = random.bytes(BLOCK - HEADER - CUT + after);
+        let log = [&fragment(kind, &data), &twelve[..]].concat();
+        let mut fed = Fed::new(random, &log, BLOCK);
+        fed.offer(log.len() - CUT);
+        fed.draw_all();
+        every_cutting(&fed);
+    }
+}

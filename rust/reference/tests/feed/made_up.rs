@@ -1,0 +1,381 @@
+//! States that a caller makes up (§11.3): which fit together, and what is answered for those.
+
+use crate::accepted::accepted;
+use crate::make;
+use crate::random::Random;
+use reference::feed::{end, fits, next, take, Block, State, Told};
+use reference::log::{self, fragment, Next, Stored, Tail, BLOCK, FIRST, HEADER, LONGEST_LOG};
+
+const BLOCK64: u64 = BLOCK as u64;
+const LOG64: u64 = LONGEST_LOG as u64;
+
+/// Sets numbers of a state.
+type Change = fn(&mut State);
+
+/// Whether a state fits together once it is changed, each row one change.
+fn judged(state: State, rows: &[(Change, bool)]) {
+    for (i, (change, due)) in rows.iter().enumerate() {
+        let mut state = state;
+        change(&mut state);
+        assert_eq!(fits(&state), *due, "row {i}, {state:?}");
+    }
+}
+
+/// A state with nothing open.
+const NONE: State = State {
+    limit: 100,
+    place: 50,
+    came: 60,
+    over: 0,
+    opened: 0,
+    start: 0,
+    length: 0,
+    bad: 0,
+};
+
+/// The list of §11.3, each line at its edge and one past it.
+#[test]
+fn that_fit_with_nothing_open() {
+    assert!(fits(&State::default()));
+    judged(
+        NONE,
+        &[
+            (|_| {}, true),
+            (|s| s.limit = 262_144, true),
+            (|s| s.limit = 262_145, false),
+            (|s| s.limit = u64::MAX, false),
+            (|s| (s.place, s.came) = (LOG64, LOG64), true),
+            (|s| (s.place, s.came) = (LOG64, LOG64 + 1), false),
+            (|s| (s.place, s.came) = (u64::MAX, u64::MAX), false),
+            (|s| s.place = 60, true),
+            (|s| s.place = 61, false),
+            (|s| s.place = u64::MAX, false),
+            (|s| s.came = BLOCK64, true),
+            (|s| s.came = BLOCK64 + 1, false),
+            (|s| (s.place, s.came) = (BLOCK64 - 1, BLOCK64), true),
+            (|s| (s.place, s.came) = (BLOCK64 - 1, BLOCK64 + 1), false),
+            (|s| (s.place, s.came) = (BLOCK64, 2 * BLOCK64), true),
+            (|s| (s.place, s.came) = (BLOCK64, 2 * BLOCK64 + 1), false),
+            (|s| s.over = 1, true),
+            (|s| s.over = 2, false),
+            (|s| s.over = u64::MAX, false),
+            (|s| s.start = 1, false),
+            (|s| s.length = 1, false),
+        ],
+    );
+}
+
+#[test]
+fn that_fit_with_a_record_open() {
+    let open = State {
+        opened: 1,
+        start: 3,
+        length: 40,
+        ..NONE
+    };
+    judged(
+        open,
+        &[
+            (|_| {}, true),
+            (|s| s.opened = 2, false),
+            (|s| s.opened = u64::MAX, false),
+            (|s| s.limit = 40, true),
+            (|s| s.limit = 39, false),
+            (|s| s.start = 0, true),
+            (|s| s.start = 4, false),
+            (|s| s.start = u64::MAX, false),
+            (|s| s.start = u64::MAX - 46, false),
+            (|s| s.length = 41, false),
+            (|s| (s.start, s.length) = (43, 0), true),
+            (|s| (s.start, s.length) = (44, 0), false),
+            (|s| s.length = u64::MAX, false),
+            (|s| s.bad = 1, false),
+        ],
+    );
+}
+
+#[test]
+fn that_fit_with_a_bad_fragment() {
+    let bad = State { bad: 3, ..NONE };
+    judged(
+        bad,
+        &[
+            (|_| {}, true),
+            (|s| s.bad = 1, true),
+            (|s| s.bad = 4, false),
+            (|s| s.bad = u64::MAX, false),
+            (|s| s.place = 53, true),
+            (|s| s.place = 54, false),
+            (|s| (s.place, s.bad) = (54, 0), true),
+        ],
+    );
+}
+
+/// Any numbers at all: calls are refused if and only if they do not fit together, and then change
+/// nothing; else a state comes of them that fits.
+#[test]
+fn of_any_numbers() {
+    let random = &mut Random::new();
+    println!("{random}");
+    let numbers = [0, 1, 2, 3, 7, 8, 40, BLOCK64 - 1, BLOCK64, LOG64];
+    let high = [
+        BLOCK64 + 1,
+        262_145,
+        LOG64 + 1,
+        1 << 63,
+        u64::MAX - 7,
+        u64::MAX,
+    ];
+    let mut block: Box<Block> = random.bytes(BLOCK).try_into().expect("a block");
+    let mut fitting = 0;
+    for _ in 0..100_000 {
+        let mut number = |most| match random.below(12) {
+            0 => make::pick(random, &high),
+            1..=5 => make::pick(random, &numbers),
+            _ => random.below(most) as u64,
+        };
+        let place = number(2);
+        let before = State {
+            limit: number(100),
+            place,
+            came: place.wrapping_add(number(20)),
+            over: number(2),
+            opened: number(2),
+            start: number(1),
+            length: number(1),
+            bad: number(1),
+        };
+        fitting += usize::from(any_calls(&before, &mut block));
+    }
+    assert!(fitting > 1_000, "{fitting} of them fit");
+}
+
+/// Each call once; whether the numbers fit.
+fn any_calls(before: &State, block: &mut Block) -> bool {
+    let [mut fed, mut ended, mut drawn] = [*before; 3];
+    let fitting = fits(before);
+    let taken = take(&mut fed, block, &[7]);
+    end(&mut ended);
+    let told = next(&mut drawn, block, &mut [0; 100]);
+    if fitting {
+        assert!(fits(&fed) && fits(&ended) && fits(&drawn), "{before:?}");
+        assert_eq!(ended.over, 1);
+        assert_eq!(told == Told::Refused(6), before.limit > 100, "{before:?}");
+        return true;
+    }
+    let too_long = before.came >= LOG64;
+    assert_eq!(taken, Err(if too_long { 1 } else { 2 }), "{before:?}");
+    assert_eq!(told, Told::Refused(2), "{before:?}");
+    assert_eq!([fed, ended, drawn], [*before; 3]);
+    false
+}
+
+/// A state that fits together, and the bytes of its block.
+struct Made {
+    state: State,
+    block: Box<Block>,
+    buffer: Vec<u8>,
+}
+
+/// Fragments from the place on, of which some have come; sometimes all of the block.
+fn made(random: &mut Random) -> Made {
+    let o = make::pick(random, &[0, 100, BLOCK / 2, BLOCK - 30]) + random.below(30);
+    let mut bytes = random.bytes(o);
+    make::add(random, &mut bytes, (o + 60).min(BLOCK), 9);
+    bytes.extend(random.bytes(BLOCK - bytes.len()));
+    let came = match random.below(4) {
+        0 => BLOCK,
+        _ => (o + random.below(60)).min(BLOCK),
+    };
+    let base = random.below(LONGEST_LOG / BLOCK) * BLOCK;
+    let mut state = State {
+        limit: random.below(70) as u64,
+        place: (base + o) as u64,
+        came: (base + came) as u64,
+        over: random.below(2) as u64,
+        ..State::default()
+    };
+    let length = random.below(state.limit as usize + 1);
+    if o >= HEADER + length && random.below(2) == 0 {
+        state.opened = 1;
+        state.length = length as u64;
+        state.start = random.below(base + o - HEADER - length + 1) as u64;
+    }
+    Made {
+        state,
+        block: bytes.try_into().expect("a block"),
+        buffer: random.bytes(80),
+    }
+}
+
+/// The block as far as it has come, as a log of its own. What is open is in it as a FIRST that ends
+/// at the place; where it starts there is given too.
+fn as_a_log(made: &Made) -> (Vec<u8>, usize) {
+    let State { place, came, .. } = made.state;
+    let o = (place % BLOCK64) as usize;
+    let mut log = made.block[..o + (came - place) as usize].to_vec();
+    if made.state.opened == 0 {
+        return (log, o);
+    }
+    let first = fragment(FIRST, &made.buffer[..made.state.length as usize]);
+    let start = o - first.len();
+    log[start..o].copy_from_slice(&first);
+    (log, start)
+}
+
+/// The first answer of a log from a place on, in the form of §11.10.
+fn first_answer(log: &[u8], place: usize, limit: u64) -> Next {
+    let mut buffer = vec![0; limit as usize];
+    let mut answer = log::next(log, place, limit as usize, &mut buffer);
+    if let Next::Record { stored, .. } = &mut answer {
+        *stored = Stored::Gathered;
+    }
+    answer
+}
+
+/// The answer if it is certain: if the end is announced, or if a byte more does not change it.
+fn certain(log: &[u8], place: usize, state: &State) -> Option<Next> {
+    let answer = first_answer(log, place, state.limit);
+    let same = |byte: &u8| {
+        let longer = [log, &[*byte]].concat();
+        first_answer(&longer, place, state.limit) == answer
+    };
+    let settled = !matches!(answer, Next::End(_)) && [0, 1, 0xFF].iter().all(same);
+    (state.over == 1 || settled).then_some(answer)
+}
+
+/// An answer of the block's own log, at the places that the state speaks of.
+fn moved(answer: Next, from: usize, state: &State) -> Next {
+    let base = (state.place - state.place % BLOCK64) as usize;
+    let shift = |place: usize| match state.opened {
+        1 if place == from => state.start as usize,
+        _ => base + place,
+    };
+    match answer {
+        Next::Record {
+            start,
+            end,
+            length,
+            stored,
+        } => Next::Record {
+            start: shift(start),
+            end: base + end,
+            length,
+            stored,
+        },
+        Next::Skip { start, end, reason } => Next::Skip {
+            start: shift(start),
+            end: base + end,
+            reason,
+        },
+        Next::End(Tail::Torn(start)) => Next::End(Tail::Torn(shift(start))),
+        other => other,
+    }
+}
+
+#[test]
+fn that_fit_are_answered() {
+    let random = &mut Random::new();
+    println!("{random}");
+    let mut kinds = [0; 4];
+    for _ in 0..3_000 {
+        let mut made = made(random);
+        let before = made.state;
+        assert!(fits(&before), "{random}, {before:?}");
+        let (log, from) = as_a_log(&made);
+        let due = certain(&log, from, &before);
+        let (state, buffer) = after(&made, &log, from, due);
+        let told = next(&mut made.state, &made.block, &mut made.buffer);
+        let due = due.map_or(Told::NotYet, |answer| {
+            Told::Answer(moved(answer, from, &before))
+        });
+        assert_eq!(told, due, "{random}, {before:?}");
+        assert_eq!(made.state, state, "{random}, {before:?}, {told:?}");
+        assert!(made.buffer == buffer, "{random}, {before:?}, {told:?}");
+        kinds[match told {
+            Told::Answer(Next::Record { .. }) => 0,
+            Told::Answer(Next::Skip { .. }) => 1,
+            Told::Answer(_) => 2,
+            _ => 3,
+        }] += 1;
+    }
+    assert!(kinds.iter().all(|kind| *kind > 100), "{kinds:?}");
+}
+
+/// State and buffer after the call, by the block's own log and the answer that is due.
+fn after(made: &Made, log: &[u8], from: usize, due: Option<Next>) -> (State, Vec<u8>) {
+    let answer = first_answer(log, from, made.state.limit);
+    let mut buffer = made.buffer.clone();
+    let mut state = made.state;
+    let base = state.place - state.place % BLOCK64;
+    let mut place = (state.place - base) as usize;
+    for fragment in accepted(log, &[answer]) {
+        let part = fragment.front..fragment.front + fragment.length();
+        buffer[part].copy_from_slice(fragment.data(log));
+        if fragment.span.start >= place {
+            if state.opened == 0 {
+                state.start = base + fragment.span.start as u64;
+            }
+            state.opened = 1;
+            state.length += fragment.length() as u64;
+            place = fragment.span.end;
+        }
+    }
+    // A trailer is passed if all of it has come, or all that there is.
+    if BLOCK - place < HEADER && (log.len() == BLOCK || state.over == 1) {
+        place = log.len();
+    }
+    state.place = base + place as u64;
+    match (due, answer) {
+        (Some(Next::Record { end, .. } | Next::Skip { end, .. }), _) => {
+            state = State {
+                place: base + end as u64,
+                opened: 0,
+                start: 0,
+                length: 0,
+                ..state
+            };
+        }
+        (None, Next::Skip { reason, .. }) => state.bad = u64::from(reason),
+        _ => {}
+    }
+    (state, buffer)
+}
+
+/// What is remembered is answered at the end of its range, whatever the block holds.
+#[test]
+fn that_remember_a_bad_fragment() {
+    let random = &mut Random::new();
+    println!("{random}");
+    for _ in 0..600 {
+        let mut made = made(random);
+        let State { place, came, .. } = made.state;
+        if came - place < 7 {
+            continue;
+        }
+        let reason = 1 + random.below(3) as u8;
+        made.state = State {
+            opened: 0,
+            start: 0,
+            length: 0,
+            bad: u64::from(reason),
+            ..made.state
+        };
+        let (before, buffer) = (made.state, made.buffer.clone());
+        let told = next(&mut made.state, &made.block, &mut made.buffer);
+        assert!(made.buffer == buffer);
+        if before.over == 0 && came % BLOCK64 != 0 {
+            assert_eq!((told, made.state), (Told::NotYet, before));
+            continue;
+        }
+        let (start, end) = (place as usize, came as usize);
+        let due = Next::Skip { start, end, reason };
+        assert_eq!(told, Told::Answer(due), "{random}, {before:?}");
+        let on = State {
+            place: came,
+            bad: 0,
+            ..before
+        };
+        assert_eq!(made.state, on);
+    }
+}

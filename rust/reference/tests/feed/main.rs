@@ -1,0 +1,17 @@
+//! The fed reader (docs/FORMAT.md, §11): held to the whole log's reading, to the earliest moment by
+//! its definition, and to the refusals.
+
+mod accepted;
+mod cuttings;
+mod fed;
+mod made_up;
+mod make;
+mod moments;
+mod pieces;
+mod program;
+mod refusals;
+mod sums;
+mod words;
+
+#[path = "../../../mellansko/tests/random/mod.rs"]
+mod random;
