@@ -10,6 +10,7 @@
  * The mark is how many bytes of a log are used: mellansko_append writes a record there and answers
  * the new mark. A place is where mellansko_next reads: 0, and then what the last answer says. It
  * skips a record of more bytes than the limit, and gathers one of several fragments in the buffer.
+ * For a log that is still coming there are the calls of a reader that is fed in pieces.
  *
  * What is said here of answers and of lent bytes is proved for every input, and so is that each
  * call ends and does nothing undefined; docs/PROOF.md says what that rests on. The names of the
@@ -17,9 +18,11 @@
  * this:
  *
  * - No pointer is NULL, not even one with length 0. A pointer and a length are a slice that really
- *   has that many bytes. A slice may start at any address, an answer where C may put one.
- * - What a call writes (an append's log, a reading's buffer, the answer) overlaps nothing else that
- *   it is passed, and no other thread uses it until the call returns. Nothing writes what it reads.
+ *   has that many bytes. A slice and a block may start at any address, an answer and a feed where C
+ *   may put one.
+ * - What a call writes (an append's log, a reading's buffer, a feed and its block, the answer)
+ *   overlaps nothing else that it is passed, and no other thread uses it until the call returns.
+ *   Nothing writes what it reads.
  *
  * The calls allocate nothing, share no state, and keep nothing of what they are passed. They take
  * time in proportion to the bytes that they look at. They are for Linux on x86-64.
@@ -30,7 +33,8 @@
  *
  * `rt staticlib mellansko` makes the archive to link with, target/staticlib/libmellansko.a, and
  * `./install PREFIX` installs it with this header. examples/journal.c is a program to start from,
- * examples/append_file.c and examples/read_file.c are for files.
+ * examples/append_file.c and examples/read_file.c are for files, and examples/feed_stdin.c is for
+ * what comes over a pipe.
  */
 #ifndef MELLANSKO_H
 #define MELLANSKO_H
@@ -76,19 +80,36 @@ enum mellansko_appended {
     MELLANSKO_APPEND_REFUSED = 1
 };
 
-/* An answer's kind, as mellansko_next returns it. */
+/* An answer's kind, as mellansko_next and mellansko_feed_next return it. */
 enum mellansko_next_kind {
     MELLANSKO_RECORD = 0,
     MELLANSKO_SKIP = 1,
     MELLANSKO_END = 2,
-    MELLANSKO_NEXT_REFUSED = 3
+    MELLANSKO_NEXT_REFUSED = 3,
+    MELLANSKO_NOT_YET = 4  /* mellansko_feed_next alone: nothing more is certain yet */
 };
 
-/* The words of an answer (10.1): a call writes all ten. Those that its kind does not name are 0. */
+/* An answer's kind, as mellansko_feed_begin returns it. */
+enum mellansko_begun {
+    MELLANSKO_BEGUN = 0,
+    MELLANSKO_BEGIN_REFUSED = 1
+};
+
+/* An answer's kind, as mellansko_feed_take returns it. */
+enum mellansko_take_kind {
+    MELLANSKO_TAKEN = 0,
+    MELLANSKO_TAKE_REFUSED = 1
+};
+
+/*
+ * The words of an answer (10.1, 11.14): a call writes all ten. Those that its kind does not name
+ * are 0.
+ */
 #define MELLANSKO_ANSWER 10
 
 /* Each begins with word 0 of an answer. An end is exclusive. */
 struct mellansko_accepted { uint64_t kind, mark; };
+struct mellansko_taken { uint64_t kind, length; };
 struct mellansko_record { uint64_t kind, start, end, length, stored, data, place; };
 struct mellansko_skip { uint64_t kind, start, end, reason, zero[2], place; };
 struct mellansko_end { uint64_t kind, tail, start, zero[3], place; };
@@ -99,6 +120,7 @@ MELLANSKO_UNNAMED struct mellansko_answer {
         uint64_t words[MELLANSKO_ANSWER];
         struct { uint64_t kind, by_kind[5], place; };  /* by these names in any answer */
         struct mellansko_accepted accepted;            /* MELLANSKO_ACCEPTED */
+        struct mellansko_taken taken;                  /* MELLANSKO_TAKEN */
         struct mellansko_record record;                /* MELLANSKO_RECORD */
         struct mellansko_skip skip;                    /* MELLANSKO_SKIP */
         struct mellansko_end end;                      /* MELLANSKO_END */
@@ -112,23 +134,29 @@ typedef char mellansko_answer_has_the_words_of_the_calls[
     offsetof(struct mellansko_answer, kind) == 0 &&
     offsetof(struct mellansko_answer, place) == 48 &&
     offsetof(struct mellansko_answer, accepted.mark) == 8 &&
+    offsetof(struct mellansko_answer, taken.length) == 8 &&
     offsetof(struct mellansko_answer, record.place) == 48 &&
     offsetof(struct mellansko_answer, skip.place) == 48 &&
     offsetof(struct mellansko_answer, end.place) == 48 &&
     offsetof(struct mellansko_answer, refused.given) == 16 ? 1 : -1];
 
 /*
- * A refusal's number (5): why the call did nothing. No lent byte but the answer's has changed. If
- * several conditions hold, it is the lowest number. There are no other refusals. Its `given` is the
- * mark or place that the call was given.
+ * A refusal's number (5, 11.11): why the call did nothing. No lent byte but the answer's has
+ * changed. If several conditions hold, it is the lowest number. There are no other refusals. Its
+ * `given` is the mark or place that the call was given, and 0 from the calls with a feed.
  */
 enum mellansko_refusal {
-    MELLANSKO_LOG_TOO_LONG = 1,     /* append, next: log_len is above MELLANSKO_LONGEST_LOG */
+    MELLANSKO_LOG_TOO_LONG = 1,     /* append, next: log_len is above MELLANSKO_LONGEST_LOG;
+                                       feed_take: what has come and the piece together are */
     MELLANSKO_OUTSIDE = 2,          /* append, next: the mark or place is above log_len */
+    MELLANSKO_UNFIT = 2,            /* feed_take, feed_next: the feed's numbers do not fit together;
+                                       those that calls lead to do */
     MELLANSKO_RECORD_TOO_LONG = 3,  /* append: record_len is above MELLANSKO_LONGEST_RECORD */
     MELLANSKO_NO_ROOM = 4,          /* append: the size added is above log_len - mark */
-    MELLANSKO_LIMIT_TOO_HIGH = 5,   /* next: the limit is above MELLANSKO_LONGEST_RECORD */
-    MELLANSKO_BUFFER_TOO_SHORT = 6  /* next: buffer_len is below the limit */
+    MELLANSKO_LIMIT_TOO_HIGH = 5,   /* next, feed_begin: the limit is above
+                                       MELLANSKO_LONGEST_RECORD */
+    MELLANSKO_BUFFER_TOO_SHORT = 6, /* next, feed_next: buffer_len is below the limit */
+    MELLANSKO_AFTER_END = 20        /* feed_take: the end is announced */
 };
 
 /* A record's `stored`: where its bytes are. */
@@ -215,6 +243,109 @@ MELLANSKO_KEEP MELLANSKO_NOT_NULL
 uint64_t mellansko_next(const uint8_t *log, size_t log_len, size_t place, size_t limit,
                         uint8_t *buffer, size_t buffer_len, struct mellansko_answer *answer);
 
+/* ---- reading in pieces */
+
+/*
+ * What a reader that is fed in pieces keeps from call to call, besides a block and a buffer (11.2).
+ * mellansko_feed_begin makes one, and the other calls go on from it. It may be looked at, and be
+ * copied together with block and buffer. One that is made up does no harm: it is refused if its
+ * numbers do not fit together (11.3).
+ */
+struct mellansko_feed {
+    uint64_t limit;     /* the most bytes of a record that is handed out */
+    uint64_t place;     /* the place that reading has come to */
+    uint64_t came;      /* how many bytes of the log have come */
+    uint64_t over;      /* 1 if the end is announced, else 0 */
+    uint64_t opened;    /* 1 if a record is open: begun, and not finished yet; else 0 */
+    uint64_t start;     /* where the open record started; 0 if none is open */
+    uint64_t length;    /* how many bytes of it the buffer holds; 0 if none is open */
+    uint64_t bad;       /* the reason to skip from the place on, if it is seen already; else 0 */
+    uint64_t later[2];  /* begin sets them to 0, and no other call reads or changes them */
+};
+
+/* If these were not the calls' words (11.14), this would not compile. */
+typedef char mellansko_feed_has_the_words_of_the_calls[
+    sizeof(struct mellansko_feed) == 80 &&
+    offsetof(struct mellansko_feed, limit) == 0 &&
+    offsetof(struct mellansko_feed, place) == 8 &&
+    offsetof(struct mellansko_feed, came) == 16 &&
+    offsetof(struct mellansko_feed, over) == 24 &&
+    offsetof(struct mellansko_feed, opened) == 32 &&
+    offsetof(struct mellansko_feed, start) == 40 &&
+    offsetof(struct mellansko_feed, length) == 48 &&
+    offsetof(struct mellansko_feed, bad) == 56 &&
+    offsetof(struct mellansko_feed, later) == 64 ? 1 : -1];
+
+/*
+ * Begins to read a log that comes in pieces of any length, with a limit on a record's length.
+ * Writes the feed, unless it is refused, and returns the answer's kind:
+ *
+ *   MELLANSKO_BEGUN           the feed is begun, at place 0
+ *   MELLANSKO_BEGIN_REFUSED   refused.number: MELLANSKO_LIMIT_TOO_HIGH
+ *
+ * To read a log: take its first piece, draw answers (mellansko_feed_next) until they say
+ * MELLANSKO_NOT_YET, take what is left of the piece, draw again, and so on with each piece. After
+ * the last announce the end, and draw up to it. The answers are those of mellansko_next for all of
+ * the log, at one limit and in the same order, but that every record is gathered. Where the pieces
+ * are cut, and when answers are drawn, makes no difference to them, if the log is not too long. If
+ * it is, a piece that would pass MELLANSKO_LONGEST_LOG is refused whole: to have all answers up to
+ * there, offer what is left to that length first.
+ *
+ * The block is the caller's, MELLANSKO_BLOCK bytes, and so is the buffer, limit bytes at least.
+ * Both may hold anything at first, and are then handed on from call to call. If they are altered in
+ * between, answers speak of what is there, and no harm comes of it.
+ */
+MELLANSKO_KEEP MELLANSKO_NOT_NULL
+uint64_t mellansko_feed_begin(size_t limit, struct mellansko_feed *feed,
+                              struct mellansko_answer *answer);
+
+/*
+ * Takes the first bytes of a piece (piece, piece_len), as many as the block has room for up to its
+ * end. Returns the answer's kind:
+ *
+ *   MELLANSKO_TAKEN          taken.length: so many bytes, and feed.came has grown by it
+ *   MELLANSKO_TAKE_REFUSED   refused.number: MELLANSKO_LOG_TOO_LONG, judged for all of the piece,
+ *                            MELLANSKO_UNFIT or MELLANSKO_AFTER_END
+ *
+ * If fewer than piece_len were taken, the rest is to be offered once answers are drawn: after
+ * MELLANSKO_NOT_YET there is room for a byte at least. A piece may have no bytes.
+ */
+MELLANSKO_KEEP MELLANSKO_NOT_NULL
+uint64_t mellansko_feed_take(struct mellansko_feed *feed, uint8_t block[MELLANSKO_BLOCK],
+                             const uint8_t *piece, size_t piece_len,
+                             struct mellansko_answer *answer);
+
+/*
+ * Announces that the log ends with what has come. A second time changes nothing, and a feed whose
+ * numbers do not fit together is left as it is.
+ */
+MELLANSKO_NOT_NULL
+void mellansko_feed_end(struct mellansko_feed *feed);
+
+/*
+ * Gives the next answer, as soon as no byte that may still come can change it; the log may also end
+ * with what has come. Returns the answer's kind:
+ *
+ *   MELLANSKO_RECORD         record.start and .end, its span; .length: the buffer's first so many
+ *                            bytes, until the next call; .stored is MELLANSKO_GATHERED
+ *   MELLANSKO_SKIP           skip.start, .end and .reason
+ *   MELLANSKO_END            end.tail and .start, once the end is announced; and again if called
+ *                            again
+ *   MELLANSKO_NEXT_REFUSED   refused.number: MELLANSKO_UNFIT or MELLANSKO_BUFFER_TOO_SHORT
+ *   MELLANSKO_NOT_YET        nothing more is certain before another byte, or the end
+ *
+ * A sound fragment is dealt with when its last byte has come. One that is bad waits, with no record
+ * open, for the end of its block or of the log, since all up to there is skipped (11.8). The block
+ * is only read. In the buffer the open record's bytes are gathered, and they stay there if it turns
+ * out to be skipped; no other byte is changed.
+ *
+ * The feed goes on by itself after an answer. After an end it stays, and answers that end again.
+ * What is skipped or torn is not to be treated as never written: see mellansko_next.
+ */
+MELLANSKO_KEEP MELLANSKO_NOT_NULL
+uint64_t mellansko_feed_next(struct mellansko_feed *feed, const uint8_t block[MELLANSKO_BLOCK],
+                             uint8_t *buffer, size_t buffer_len, struct mellansko_answer *answer);
+
 /* ---- the checksum */
 
 /* The CRC32C of any number of bytes, as in RFC 3720; of none, 0. */
@@ -247,11 +378,13 @@ static inline const char *mellansko_refusal_text(uint64_t number)
 {
     switch (number) {
     case MELLANSKO_LOG_TOO_LONG: return "the log is longer than 16777216 bytes";
-    case MELLANSKO_OUTSIDE: return "the mark or place is beyond the log's end";
+    case MELLANSKO_OUTSIDE: /* and MELLANSKO_UNFIT: whoever calls knows which it is */
+        return "the mark or place is beyond the log's end, or the feed's numbers do not fit";
     case MELLANSKO_RECORD_TOO_LONG: return "the record is longer than 262144 bytes";
     case MELLANSKO_NO_ROOM: return "the log has no room for the record at the mark";
     case MELLANSKO_LIMIT_TOO_HIGH: return "the limit is above 262144 bytes";
     case MELLANSKO_BUFFER_TOO_SHORT: return "the buffer is shorter than the limit";
+    case MELLANSKO_AFTER_END: return "the log's end was announced before the piece";
     default: return "a number that is no refusal's";
     }
 }

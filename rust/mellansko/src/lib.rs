@@ -42,10 +42,29 @@
 //! # Ok::<(), mellansko::Refusal>(())
 //! ```
 //!
+//! [`Feed`] is for a log that is still coming. It is fed pieces of any length, and gives each
+//! answer as soon as no byte that may still come can change it. [`Incoming`] does so over a
+//! [`Read`](std::io::Read), a pipe say. Neither holds more than a block and a record of the log:
+//!
+//! ```
+//! use mellansko::{Answer, Incoming};
+//!
+//! # let pipe: &[u8] = &[];
+//! let mut incoming = Incoming::new(pipe);
+//! while let Some(answer) = incoming.advance()? {
+//!     match answer {
+//!         Answer::Record { record, bytes } => println!("record at {}: {bytes:?}", record.start),
+//!         Answer::Skip(skip) => println!("in doubt: {skip}"),
+//!         Answer::End(tail) => println!("the end: {tail}"),
+//!     }
+//! }
+//! # Ok::<(), mellansko::NotRead>(())
+//! ```
+//!
 //! # What is promised
 //!
 //! Of the calls that this crate links this is proved. `docs/FORMAT.md` of the repository has the exact
-//! words (§5 to §7), and `docs/PROOF.md` says what the proof rests on:
+//! words (§5 to §7, §11.12), and `docs/PROOF.md` says what the proof rests on:
 //!
 //! - Whatever it is lent, each call ends and does nothing undefined. One that is refused changes no
 //!   lent byte.
@@ -56,11 +75,13 @@
 //!   stays, the records with no byte in that block come out as written.
 //! - Of any log, every byte is in exactly one record's span, skipped range or torn tail, or in a
 //!   trailer outside of these.
+//! - A log that is fed in pieces, wherever they are cut, has the answers of the whole log. Each is
+//!   given as early as can be: as soon as all logs have it that begin with what has come.
 //!
-//! This crate itself is tested, not proved. It puts the answers, ten numbers each, into types, and
-//! cuts a record's bytes out of the slice that its answer names. Its only unsafe code is the calls,
-//! which need no more than a reference to a slice guarantees. It panics at an answer that the proved
-//! calls cannot give: then another archive is linked.
+//! This crate itself is tested, not proved. It puts the answers, ten numbers each, into types, cuts
+//! a record's bytes out of the slice that its answer names, and feeds what a source of bytes gives.
+//! Its only unsafe code is the calls, which need no more than a reference to a slice guarantees. It
+//! panics at an answer that the proved calls cannot give: then another archive is linked.
 //!
 //! # What no reader of this format can tell
 //!
@@ -93,6 +114,9 @@ compile_error!("the proved calls are compiled for Linux on x86-64 alone");
 
 mod answer;
 mod calls;
+mod certain;
+mod feed;
+mod incoming;
 mod meaning;
 // For comparisons and benchmarks.
 #[doc(hidden)]
@@ -104,6 +128,9 @@ mod refusal;
 
 pub use answer::{Next, Record, Skip, Stored, Tail};
 pub use calls::{append, crc32c, mask, next};
+pub use certain::Certain;
+pub use feed::Feed;
+pub use incoming::{Incoming, NotRead};
 pub use reading::{Answer, Reading};
 pub use reason::Reason;
 pub use records::{records, records_with_limit, Doubt, NotWhole};
@@ -116,7 +143,7 @@ pub const BLOCK: usize = 32_768;
 /// The most bytes that a record has.
 pub const LONGEST_RECORD: usize = 262_144;
 
-/// The most bytes that a lent log has.
+/// The most bytes that a log has that is read, lent or fed.
 pub const LONGEST_LOG: usize = 16_777_216;
 
 // The examples of the README are run as tests.

@@ -16,6 +16,34 @@ pub fn append(kind: u64, answer: &Numbers) -> Result<usize, Refusal> {
     }
 }
 
+/// Whether a feed is begun.
+pub fn begun(kind: u64, answer: &Numbers) -> Result<(), Refusal> {
+    match kind {
+        0 => Ok(()),
+        1 => Err(refusal(answer)),
+        _ => unproved(answer),
+    }
+}
+
+/// How many bytes of a piece were taken.
+#[inline]
+pub fn taken(kind: u64, answer: &Numbers) -> Result<usize, Refusal> {
+    match kind {
+        0 => Ok(number(answer, 1)),
+        1 => Err(refusal(answer)),
+        _ => unproved(answer),
+    }
+}
+
+/// What is certain of a log that is fed in pieces, if anything more is.
+#[inline]
+pub fn certain(kind: u64, answer: &Numbers) -> Result<Option<Next>, Refusal> {
+    match kind {
+        4 => Ok(None),
+        _ => next(kind, answer).map(|(next, _)| Some(next)),
+    }
+}
+
 /// What comes next, and the place to go on from.
 #[inline]
 pub fn next(kind: u64, answer: &Numbers) -> Result<(Next, usize), Refusal> {

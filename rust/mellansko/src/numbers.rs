@@ -8,6 +8,8 @@
 // The calls into the archive are the crate's only unsafe code.
 #![allow(unsafe_code)]
 
+pub mod feed;
+
 extern "C" {
     fn mellansko_crc32c(bytes: *const u8, bytes_len: usize) -> u32;
     fn mellansko_mask(crc: u32) -> u32;

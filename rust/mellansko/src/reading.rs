@@ -42,7 +42,7 @@ pub struct Reading<'log> {
     ended: bool,
 }
 
-/// What a [`Reading`] gives.
+/// What a [`Reading`] gives, and what a [`Feed`](crate::Feed) does.
 ///
 /// As with [`Next`], every answer is to be handled. A match that leaves one out does not compile:
 ///
@@ -204,8 +204,32 @@ impl fmt::Debug for Reading<'_> {
 }
 
 impl<'a> Answer<'a> {
+    /// The same answer, with bytes of its own if it is a record: a copy, unless they are already.
+    ///
+    /// ```
+    /// use mellansko::{Answer, Feed};
+    ///
+    /// # let mut log = [0; 20];
+    /// # mellansko::append(&mut log, 0, b"LW10-1 0.9137")?;
+    /// let mut feed = Feed::new();
+    /// assert_eq!(feed.take(&log)?, log.len());
+    /// let kept: Option<Answer<'static>> = feed.advance().map(Answer::into_owned);
+    /// # assert!(matches!(kept, Some(Answer::Record { .. })));
+    /// # Ok::<(), mellansko::Refusal>(())
+    /// ```
+    pub fn into_owned(self) -> Answer<'static> {
+        match self {
+            Answer::Record { record, bytes } => Answer::Record {
+                record,
+                bytes: Cow::Owned(bytes.into_owned()),
+            },
+            Answer::Skip(skip) => Answer::Skip(skip),
+            Answer::End(tail) => Answer::End(tail),
+        }
+    }
+
     #[inline]
-    fn new(next: Next, bytes: impl FnOnce(&Record) -> Cow<'a, [u8]>) -> Answer<'a> {
+    pub(crate) fn new(next: Next, bytes: impl FnOnce(&Record) -> Cow<'a, [u8]>) -> Answer<'a> {
         match next {
             Next::Record(record) => Answer::Record {
                 record,

@@ -10,7 +10,7 @@ use std::fmt;
 pub struct Refusal {
     /// The condition that it is refused on.
     pub condition: Condition,
-    /// The mark or place that the call was given.
+    /// The mark or place that the call was given. A [`Feed`](crate::Feed) takes neither: 0.
     pub given: usize,
 }
 
@@ -19,9 +19,11 @@ pub struct Refusal {
 #[derive(Clone, Copy, Debug, PartialEq, Eq, PartialOrd, Ord, Hash)]
 #[non_exhaustive]
 pub enum Condition {
-    /// Writing or reading: the log has more than [`LONGEST_LOG`] bytes.
+    /// Writing or reading: the log has more than [`LONGEST_LOG`] bytes. Of a piece: what has come
+    /// and all of the piece together have more.
     LogTooLong = 1,
-    /// Writing or reading: the mark or place is above the log's length.
+    /// Writing or reading: the mark or place is above the log's length. (To C it also says that the
+    /// state of a fed reader is none that its calls lead to. That of a [`Feed`](crate::Feed) is.)
     Outside = 2,
     /// Writing: the record has more than [`LONGEST_RECORD`] bytes.
     RecordTooLong = 3,
@@ -32,6 +34,8 @@ pub enum Condition {
     LimitTooHigh = 5,
     /// Reading: the buffer has fewer bytes than the limit.
     BufferTooShort = 6,
+    /// Of a piece, also of one of no bytes: the log's end was announced before it.
+    AfterEnd = 20,
 }
 
 impl Condition {
@@ -43,9 +47,10 @@ impl Condition {
         Condition::NoRoom,
         Condition::LimitTooHigh,
         Condition::BufferTooShort,
+        Condition::AfterEnd,
     ];
 
-    /// The condition's number, from 1 on.
+    /// The condition's number, from 1 on. Not every number is a condition's.
     #[must_use]
     pub fn number(self) -> u8 {
         self as u8
@@ -71,6 +76,7 @@ impl fmt::Display for Refusal {
             Condition::NoRoom => write!(f, "the log has no room for the record at mark {given}"),
             Condition::LimitTooHigh => write!(f, "the limit is above {LONGEST_RECORD} bytes"),
             Condition::BufferTooShort => write!(f, "the buffer is shorter than the limit"),
+            Condition::AfterEnd => write!(f, "the log's end was announced before the piece"),
         }
     }
 }

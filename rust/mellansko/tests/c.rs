@@ -1,5 +1,7 @@
 //! The header for C, the examples that use it, and the script that installs it.
 
+#[path = "c/feed.rs"]
+mod feed;
 #[path = "c/files.rs"]
 mod files;
 #[path = "c/folder.rs"]
@@ -18,11 +20,15 @@ fn reason_text(number: u8) -> String {
     Reason::ALL[usize::from(number) - 1].to_string()
 }
 
-/// A refusal's text, by its number, without the mark or place that was given.
+/// A refusal's text, by its number, without the mark or place that was given. In C number 2 may be
+/// of a feed as well (docs/FORMAT.md, §11.11).
 fn refusal_text(number: u8) -> String {
-    let condition = Condition::ALL[usize::from(number) - 1];
+    let mut all = Condition::ALL.iter();
+    let condition = all.find(|condition| condition.number() == number);
+    let condition = *condition.expect("a condition's number");
     let given = 4711;
     let text = Refusal { condition, given }.to_string();
-    text.replace("mark or place 4711", "the mark or place")
+    let outside = "the mark or place is beyond the log's end, or the feed's numbers do not fit";
+    text.replace("mark or place 4711 is beyond the log's end", outside)
         .replace("at mark 4711", "at the mark")
 }

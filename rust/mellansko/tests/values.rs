@@ -1,9 +1,9 @@
 //! What is given, as values: in sets, in order, between threads, and as errors.
 
 use mellansko::{
-    append, Answer, Condition, Doubt, Next, NotWhole, Reading, Reason, Record, Refusal,
+    append, Answer, Certain, Condition, Doubt, Feed, Incoming, Next, NotRead, NotWhole,
 };
-use mellansko::{Skip, Stored, Tail, LONGEST_RECORD};
+use mellansko::{Reading, Reason, Record, Refusal, Skip, Stored, Tail, LONGEST_RECORD};
 use reference::log::{fragment, FIRST, LAST};
 use std::collections::HashSet;
 use std::error::Error;
@@ -57,17 +57,20 @@ fn in_order() {
     rise(conditions.into_iter().map(Condition::number).collect());
 }
 
-/// All of them are plain values, and both errors are such.
+/// All of them are plain values, the errors are such, and what reads may go to another thread.
 #[test]
 fn of_their_types() {
     fn value<T: Clone + Debug + Eq + Hash + Send + Sync>() {}
     fn small<T: Copy>() {}
     fn error<T: Error + Send + Sync + 'static>() {}
+    fn sent<T: Debug + Send + Sync>() {}
     value::<(Next, Record, Stored, Skip, Tail, Reason)>();
     value::<(Refusal, Condition, Answer, Doubt, NotWhole)>();
     small::<(Next, Refusal)>();
     error::<Refusal>();
     error::<NotWhole>();
+    error::<NotRead>();
+    sent::<(Feed, Certain, Incoming<&[u8]>, Reading)>();
     let refused = Reading::with_limit(&[], LONGEST_RECORD + 1).expect_err("a limit too high");
     assert_eq!(NotWhole::from(refused), NotWhole::Refused(refused));
 }

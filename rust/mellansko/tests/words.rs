@@ -1,5 +1,5 @@
 //! The words for people, as they are to be read: beside the numbers and names of docs/FORMAT.md
-//! (§4.7, §5.1).
+//! (§4.7, §5.1, §11.11).
 
 use mellansko::{records, records_with_limit, Condition, Reason, Refusal, Skip, Tail};
 use reference::log::{fragment, FULL, LAST};
@@ -40,18 +40,21 @@ fn of_the_reasons() {
 #[test]
 fn of_the_conditions() {
     let words = [
-        "the log is longer than 16777216 bytes",
-        "mark or place 9 is beyond the log's end",
-        "the record is longer than 262144 bytes",
-        "the log has no room for the record at mark 9",
-        "the limit is above 262144 bytes",
-        "the buffer is shorter than the limit",
+        (1, "the log is longer than 16777216 bytes"),
+        (2, "mark or place 9 is beyond the log's end"),
+        (3, "the record is longer than 262144 bytes"),
+        (4, "the log has no room for the record at mark 9"),
+        (5, "the limit is above 262144 bytes"),
+        (6, "the buffer is shorter than the limit"),
+        (20, "the log's end was announced before the piece"),
     ];
     assert_eq!(Condition::ALL.len(), words.len());
-    for ((condition, words), number) in Condition::ALL.iter().zip(words).zip(1..) {
+    for (&condition, (number, words)) in Condition::ALL.iter().zip(words) {
         assert_eq!(condition.number(), number);
-        let (condition, given) = (*condition, 9);
-        let refusal = Refusal { condition, given };
+        let refusal = Refusal {
+            condition,
+            given: 9,
+        };
         assert_eq!(refusal.to_string(), words);
     }
 }

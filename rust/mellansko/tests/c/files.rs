@@ -216,8 +216,8 @@ fn a_file_that_may_not_grow_is_cut_back() {
     }
 }
 
-/// What read_file prints of a log, and its status, if its calls are the reference's.
-fn reading(log: &[u8]) -> (String, i32) {
+/// What read_file and feed_stdin print of a log, and their status, with the reference's calls.
+pub fn reading(log: &[u8]) -> (String, i32) {
     let mut lines = String::new();
     let mut buffer = vec![0; LONGEST_RECORD];
     let (mut place, mut status) = (0, 0);
@@ -256,13 +256,13 @@ fn some_bytes(length: usize, step: usize) -> Vec<u8> {
     (0..length).map(|i| (i * step % 251) as u8).collect()
 }
 
-fn set_length(path: &Path, length: usize) {
+pub fn set_length(path: &Path, length: usize) {
     let file = File::options().write(true).open(path).expect("the file");
     file.set_len(length as u64).expect("a length");
 }
 
 /// Runs it with these bytes on standard input.
-fn run(command: &mut Command, input: &[u8]) -> Output {
+pub fn run(command: &mut Command, input: &[u8]) -> Output {
     let piped = command.stdin(Stdio::piped()).stdout(Stdio::piped());
     let mut child = piped.stderr(Stdio::piped()).spawn().expect("the program");
     let mut pipe = child.stdin.take().expect("standard input");
@@ -273,11 +273,11 @@ fn run(command: &mut Command, input: &[u8]) -> Output {
 }
 
 /// What it printed, and its exit status.
-fn printed(ran: &Output) -> (String, i32) {
+pub fn printed(ran: &Output) -> (String, i32) {
     let text = String::from_utf8_lossy(&ran.stdout).into_owned();
     (text, ran.status.code().expect("a status, and no signal"))
 }
 
-fn said(ran: &Output) -> String {
+pub fn said(ran: &Output) -> String {
     String::from_utf8_lossy(&ran.stderr).into_owned()
 }

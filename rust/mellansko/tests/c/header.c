@@ -16,8 +16,16 @@ struct lent {
     uint8_t record[TOO_LONG_RECORD];
     uint8_t before_buffer;
     uint8_t buffer[TOO_LONG_RECORD];
+    uint8_t before_block;
+    uint8_t block[MELLANSKO_BLOCK];
 };
 static struct lent now, before;
+
+/* A feed and more words after it, which no call writes. */
+static struct {
+    struct mellansko_feed feed;
+    uint64_t after[8];
+} lent_feed;
 
 /* An answer and more words after it, all ones before a call. */
 static struct {
@@ -94,12 +102,66 @@ static void next(int line, size_t log_len, size_t place, size_t limit, size_t bu
         holds(line, "a record's bytes", memcmp(bytes, now.record, (size_t)expected[3]) == 0);
 }
 
+/* A feed with this limit, over words that are all ones. */
+static void begin(int line, size_t limit, const uint64_t *expected)
+{
+    uint64_t kind;
+    memset(&lent_feed, 0xFF, sizeof lent_feed);
+    prepare();
+    kind = mellansko_feed_begin(limit, &lent_feed.feed, &lent_answer.answer);
+    answered(line, kind, expected);
+    changed_only(line, now.log, 0);
+}
+
+/* The feed has these words, and what lies after it is as it was. */
+static void fed(int line, const uint64_t *expected)
+{
+    uint64_t words[10];
+    size_t i;
+    memcpy(words, &lent_feed.feed, sizeof words);
+    for (i = 0; i < 10; i++)
+        holds(line, "the feed", words[i] == expected[i]);
+    for (i = 0; i < sizeof lent_feed.after / sizeof *lent_feed.after; i++)
+        holds(line, "what lies after the feed", lent_feed.after[i] == UINT64_MAX);
+}
+
+/* Takes a piece of the log's bytes from a place on. */
+static void take(int line, size_t place, size_t length, const uint64_t *expected)
+{
+    size_t came = (size_t)lent_feed.feed.came % MELLANSKO_BLOCK;
+    size_t taken = expected[0] == MELLANSKO_TAKEN ? (size_t)expected[1] : 0;
+    uint64_t kind;
+    prepare();
+    kind = mellansko_feed_take(&lent_feed.feed, now.block, now.log + place, length,
+                               &lent_answer.answer);
+    answered(line, kind, expected);
+    changed_only(line, now.block + came, taken);
+    holds(line, "the piece", memcmp(now.block + came, now.log + place, taken) == 0);
+}
+
+/* The next answer, which writes so many bytes of the buffer from a place on. */
+static void feed_next(int line, size_t buffer_len, size_t place, size_t written,
+                      const uint64_t *expected)
+{
+    uint64_t kind;
+    prepare();
+    kind = mellansko_feed_next(&lent_feed.feed, now.block, now.buffer, buffer_len,
+                               &lent_answer.answer);
+    answered(line, kind, expected);
+    changed_only(line, now.buffer + place, written);
+}
+
 /* The words that are not named are 0. */
 #define ANSWER(...) (const uint64_t[MELLANSKO_ANSWER]){__VA_ARGS__}
 #define APPEND(log_len, mark, length, ...) \
     append(__LINE__, log_len, mark, length, ANSWER(__VA_ARGS__))
 #define NEXT(log_len, place, limit, buffer_len, ...) \
     next(__LINE__, log_len, place, limit, buffer_len, ANSWER(__VA_ARGS__))
+#define BEGIN(limit, ...) begin(__LINE__, limit, ANSWER(__VA_ARGS__))
+#define FEED(...) fed(__LINE__, ANSWER(__VA_ARGS__))
+#define TAKE(place, length, ...) take(__LINE__, place, length, ANSWER(__VA_ARGS__))
+#define FEED_NEXT(buffer_len, place, written, ...) \
+    feed_next(__LINE__, buffer_len, place, written, ANSWER(__VA_ARGS__))
 
 /* A fragment of the record's first bytes. */
 static void put(size_t place, uint8_t type, size_t length)
@@ -130,6 +192,8 @@ static void names(void)
     WORD(place, 6);
     WORD(accepted.kind, 0);
     WORD(accepted.mark, 1);
+    WORD(taken.kind, 0);
+    WORD(taken.length, 1);
     WORD(record.kind, 0);
     WORD(record.start, 1);
     WORD(record.end, 2);
@@ -215,6 +279,89 @@ static void answers(void)
     NEXT(50, 10, 5, 5, MELLANSKO_RECORD, 10, 27, 3, MELLANSKO_GATHERED, 0, 27);
 }
 
+/* Which word of a feed a name stands for, by a feed whose words are their own numbers. */
+static void feed_names(void)
+{
+    const uint64_t words[10] = {0, 1, 2, 3, 4, 5, 6, 7, 8, 9};
+    struct mellansko_feed feed;
+    CHECK(sizeof feed == sizeof words);
+    memcpy(&feed, words, sizeof feed);
+    CHECK(feed.limit == 0 && feed.place == 1 && feed.came == 2 && feed.over == 3);
+    CHECK(feed.opened == 4 && feed.start == 5 && feed.length == 6 && feed.bad == 7);
+    CHECK(feed.later[0] == 8 && feed.later[1] == 9);
+}
+
+/* A record of two fragments, a bad one, and the end of both the log and the block. */
+static void feeding(void)
+{
+    const size_t all = MELLANSKO_LONGEST_RECORD;
+    put(10, 2, 3);
+    put(20, 4, 2);
+    memset(now.log + 29, 0, 20);
+    BEGIN(all, MELLANSKO_BEGUN);
+    FEED(all);
+    lent_feed.feed.later[0] = 7, lent_feed.feed.later[1] = 8;
+    FEED_NEXT(all, 0, 0, MELLANSKO_NOT_YET);
+    TAKE(10, 0, MELLANSKO_TAKEN, 0);
+    TAKE(10, 9, MELLANSKO_TAKEN, 9);
+    FEED_NEXT(all, 0, 0, MELLANSKO_NOT_YET);
+    TAKE(19, 2, MELLANSKO_TAKEN, 2);
+    FEED_NEXT(all, 0, 3, MELLANSKO_NOT_YET);
+    FEED(all, 10, 11, 0, 1, 0, 3, 0, 7, 8);
+    TAKE(21, 15, MELLANSKO_TAKEN, 15);
+    FEED_NEXT(all, 3, 2, MELLANSKO_RECORD, 0, 19, 5, MELLANSKO_GATHERED, 0, 19);
+    CHECK(memcmp(now.buffer, now.record, 3) == 0 && memcmp(now.buffer + 3, now.record, 2) == 0);
+    FEED(all, 19, 26, 0, 0, 0, 0, 0, 7, 8);
+    FEED_NEXT(all, 0, 0, MELLANSKO_NOT_YET);
+    FEED(all, 19, 26, 0, 0, 0, 0, MELLANSKO_BLANK, 7, 8);
+    mellansko_feed_end(&lent_feed.feed);
+    mellansko_feed_end(&lent_feed.feed);
+    FEED(all, 19, 26, 1, 0, 0, 0, MELLANSKO_BLANK, 7, 8);
+    FEED_NEXT(all, 0, 0, MELLANSKO_SKIP, 19, 26, MELLANSKO_BLANK, 0, 0, 26);
+    FEED_NEXT(all, 0, 0, MELLANSKO_END, MELLANSKO_CLEAN, 0, 0, 0, 0, 26);
+    FEED_NEXT(all, 0, 0, MELLANSKO_END, MELLANSKO_CLEAN, 0, 0, 0, 0, 26);
+    FEED(all, 26, 26, 1, 0, 0, 0, 0, 7, 8);
+}
+
+/* A torn tail, and a piece that is longer than a block. */
+static void fed_to_the_end(void)
+{
+    put(10, 2, 3);
+    BEGIN(3, MELLANSKO_BEGUN);
+    TAKE(10, 15, MELLANSKO_TAKEN, 15);
+    mellansko_feed_end(&lent_feed.feed);
+    FEED_NEXT(3, 0, 3, MELLANSKO_END, MELLANSKO_TORN, 0, 0, 0, 0, 0);
+    memset(now.log + 10, 0, 7);
+    BEGIN(3, MELLANSKO_BEGUN);
+    TAKE(10, 40000, MELLANSKO_TAKEN, MELLANSKO_BLOCK);
+    TAKE(10, 40000, MELLANSKO_TAKEN, 0);
+    FEED_NEXT(3, 0, 0, MELLANSKO_SKIP, 0, MELLANSKO_BLOCK, MELLANSKO_BLANK, 0, 0, MELLANSKO_BLOCK);
+    TAKE(10, 40000, MELLANSKO_TAKEN, MELLANSKO_BLOCK);
+}
+
+/* Each condition alone or with all of a higher number. What is refused changes no word. */
+static void refused_feeds(void)
+{
+    const size_t log = MELLANSKO_LONGEST_LOG, limit = MELLANSKO_LONGEST_RECORD;
+    BEGIN(limit + 1, MELLANSKO_BEGIN_REFUSED, MELLANSKO_LIMIT_TOO_HIGH);
+    CHECK(lent_feed.feed.limit == UINT64_MAX && lent_feed.feed.later[1] == UINT64_MAX);
+    BEGIN(limit, MELLANSKO_BEGUN);
+    TAKE(0, 9, MELLANSKO_TAKEN, 9);
+    mellansko_feed_end(&lent_feed.feed);
+    TAKE(0, log - 8, MELLANSKO_TAKE_REFUSED, MELLANSKO_LOG_TOO_LONG);
+    TAKE(0, log - 9, MELLANSKO_TAKE_REFUSED, MELLANSKO_AFTER_END);
+    TAKE(0, 0, MELLANSKO_TAKE_REFUSED, MELLANSKO_AFTER_END);
+    FEED_NEXT(limit - 1, 0, 0, MELLANSKO_NEXT_REFUSED, MELLANSKO_BUFFER_TOO_SHORT);
+    FEED(limit, 0, 9, 1);
+    lent_feed.feed.opened = 2;
+    TAKE(0, log - 8, MELLANSKO_TAKE_REFUSED, MELLANSKO_LOG_TOO_LONG);
+    TAKE(0, 0, MELLANSKO_TAKE_REFUSED, MELLANSKO_UNFIT);
+    FEED_NEXT(limit - 1, 0, 0, MELLANSKO_NEXT_REFUSED, MELLANSKO_UNFIT);
+    lent_feed.feed.over = 0;
+    mellansko_feed_end(&lent_feed.feed);
+    FEED(limit, 0, 9, 0, 2);
+}
+
 int main(void)
 {
     const uint8_t digits[] = "123456789";
@@ -229,5 +376,9 @@ int main(void)
     refused_appends();
     refused_readings();
     answers();
+    feed_names();
+    feeding();
+    fed_to_the_end();
+    refused_feeds();
     return failures != 0;
 }

@@ -30,7 +30,7 @@ fn its_texts_are_those_of_the_rust_crate() {
         "texts.c",
         "#include <stdio.h>\n#include \"mellansko.h\"\nint main(void) {\n\
          for (int i = 0; i <= 8; i++) puts(mellansko_reason_text((uint64_t)i));\n\
-         for (int i = 0; i <= 7; i++) puts(mellansko_refusal_text((uint64_t)i));\n\
+         for (int i = 0; i <= 21; i++) puts(mellansko_refusal_text((uint64_t)i));\n\
          puts(mellansko_reason_text(UINT64_MAX));\n\
          puts(mellansko_refusal_text(((uint64_t)1 << 32) + 1));\nreturn 0;\n}\n",
     );
@@ -38,12 +38,15 @@ fn its_texts_are_those_of_the_rust_crate() {
         "a number that is no reason's",
         "a number that is no refusal's",
     ];
-    assert_eq!((Reason::ALL.len(), Condition::ALL.len()), (7, 6));
+    assert_eq!((Reason::ALL.len(), Condition::ALL.len()), (7, 7));
     let mut lines = vec![none.to_string()];
     lines.extend((1..=7).map(reason_text));
+    lines.push(none.to_string());
+    lines.extend((0..=21).map(|number| match number {
+        1..=6 | 20 => refusal_text(number),
+        _ => no.to_string(),
+    }));
     lines.extend([none, no].map(String::from));
-    lines.extend((1..=6).map(refusal_text));
-    lines.extend([no, none, no].map(String::from));
     for way in folder.there(&[C, CPP]) {
         let printed = folder.run(way, &source);
         assert_eq!(printed.lines().collect::<Vec<_>>(), lines, "{way:?}");
@@ -66,9 +69,12 @@ fn its_version_is_that_of_the_rust_crate() {
 }
 
 /// The calls as they are to be made, with a result that is used, and no NULL.
-const CALLS: [&str; 4] = [
+const CALLS: [&str; 7] = [
     "mellansko_append(log, 9, 0, record, 2, &answer)",
     "mellansko_next(log, 9, 0, 2, record, 2, &answer)",
+    "mellansko_feed_begin(2, &feed, &answer)",
+    "mellansko_feed_take(&feed, block, log, 9, &answer)",
+    "mellansko_feed_next(&feed, block, record, 2, &answer)",
     "mellansko_crc32c(record, 2)",
     "mellansko_mask(7)",
 ];
@@ -76,8 +82,9 @@ const CALLS: [&str; 4] = [
 fn program(statement: &str) -> String {
     format!(
         "#include \"mellansko.h\"\nint used(uint64_t result);\nint calls(void);\n\
-         int calls(void)\n{{\nstatic uint8_t log[9], record[2];\n\
-         static struct mellansko_answer answer;\n(void)log, (void)record, (void)answer;\n\
+         int calls(void)\n{{\nstatic uint8_t log[9], record[2], block[MELLANSKO_BLOCK];\n\
+         static struct mellansko_answer answer;\nstatic struct mellansko_feed feed;\n\
+         (void)log, (void)record, (void)block, (void)answer, (void)feed;\n\
          {statement};\nreturn 0;\n}}\n"
     )
 }
@@ -104,10 +111,26 @@ fn a_pointer_that_is_null_is_warned_of() {
             "mellansko_next(NULL, 9, 0, 2, record, 2, &answer)",
             "mellansko_next(log, 9, 0, 2, NULL, 2, &answer)",
             "mellansko_next(log, 9, 0, 2, record, 2, NULL)",
+            "mellansko_feed_begin(2, NULL, &answer)",
+            "mellansko_feed_begin(2, &feed, NULL)",
+            "mellansko_feed_take(NULL, block, log, 9, &answer)",
+            "mellansko_feed_take(&feed, NULL, log, 9, &answer)",
+            "mellansko_feed_take(&feed, block, NULL, 9, &answer)",
+            "mellansko_feed_take(&feed, block, log, 9, NULL)",
+            "mellansko_feed_next(NULL, block, record, 2, &answer)",
+            "mellansko_feed_next(&feed, NULL, record, 2, &answer)",
+            "mellansko_feed_next(&feed, block, NULL, 2, &answer)",
+            "mellansko_feed_next(&feed, block, record, 2, NULL)",
             "mellansko_crc32c(NULL, 2)",
         ] {
             fails(&folder, way, &program(&format!("used({call})")), "nonnull");
         }
+        fails(
+            &folder,
+            way,
+            &program("mellansko_feed_end(NULL)"),
+            "nonnull",
+        );
     }
 }
 

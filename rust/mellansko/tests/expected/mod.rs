@@ -1,5 +1,5 @@
 //! The crate's answers, in the reference's types. How its reasons and conditions are numbered is
-//! said here once more, by docs/FORMAT.md (§4.7, §5.1) and not by the crate's lists.
+//! said here once more, by docs/FORMAT.md (§4.7, §5.1, §11.11) and not by the crate's lists.
 
 // Each test program takes a part of it.
 #![allow(dead_code)]
@@ -80,6 +80,7 @@ fn condition_number(condition: Condition) -> u8 {
         Condition::NoRoom => 4,
         Condition::LimitTooHigh => 5,
         Condition::BufferTooShort => 6,
+        Condition::AfterEnd => 20,
         _ => panic!("the format does not have {condition:?}"),
     };
     assert_eq!(condition.number(), number);

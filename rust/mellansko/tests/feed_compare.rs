@@ -1,0 +1,70 @@
+//! The proved reader that is fed in pieces against the independent one: every word of state and
+//! answer, and every byte that is lent.
+
+#[path = "feed_compare/cuts.rs"]
+mod cuts;
+#[path = "feed_compare/earliest.rs"]
+mod earliest;
+#[path = "feed_compare/edges.rs"]
+mod edges;
+#[path = "compare/lent.rs"]
+mod lent;
+#[path = "feed_compare/logs.rs"]
+mod logs;
+// A part of it.
+#[allow(dead_code)]
+#[path = "compare/make.rs"]
+mod make;
+#[path = "feed_compare/orders.rs"]
+mod orders;
+#[path = "feed_compare/pair.rs"]
+mod pair;
+mod random;
+#[path = "feed_compare/states.rs"]
+mod states;
+#[path = "feed_compare/words.rs"]
+mod words;
+
+use random::Random;
+
+/// Compares on one kind of inputs, and gives the number of calls that were compared.
+type Part = fn(&mut Random) -> usize;
+
+fn compare(part: Part, at_least: usize) {
+    let mut random = Random::new();
+    // Shown where the test fails.
+    println!("{random}");
+    let made = part(&mut random);
+    println!("{made} calls compared");
+    assert!(made >= at_least, "only {made} calls compared");
+}
+
+#[test]
+fn on_logs_whole_cut_and_damaged() {
+    compare(logs::all, 100_000);
+}
+
+#[test]
+fn on_all_ways_of_cutting_short_logs() {
+    compare(cuts::all, 200_000);
+}
+
+#[test]
+fn on_calls_in_any_order() {
+    compare(orders::all, 40_000);
+}
+
+#[test]
+fn on_states_that_are_made_up() {
+    compare(states::all, 300_000);
+}
+
+#[test]
+fn on_every_condition() {
+    compare(edges::all, 500);
+}
+
+#[test]
+fn on_the_earliest_moment_by_its_definition() {
+    compare(earliest::all, 1_000);
+}
