@@ -26,6 +26,10 @@ pub enum Command {
         source: Source,
         limit: usize,
     },
+    Follow {
+        file: OsString,
+        limit: usize,
+    },
     Map {
         source: Source,
         blocks: Option<usize>,
@@ -49,7 +53,9 @@ pub fn parse(words: impl Iterator<Item = OsString>) -> Result<Command, Trouble> 
     let rest: Vec<OsString> = words.collect();
     match first.to_str() {
         Some("verify") => Given::of("verify", help::VERIFY, &["--all"], rest)?.command(verify),
-        Some("dump") => Given::of("dump", help::DUMP, &["--limit"], rest)?.command(dump),
+        Some("dump") => {
+            Given::of("dump", help::DUMP, &["--limit", "--follow"], rest)?.command(dump)
+        }
         Some("map") => Given::of("map", help::MAP, &["--blocks", "--color"], rest)?.command(map),
         Some("cat") => Given::of("cat", help::CAT, &[], rest)?.command(cat),
         Some("append") => Given::of("append", help::APPEND, &["--new"], rest)?.command(append),
@@ -110,9 +116,15 @@ fn dump(mut given: Given) -> Result<Command, Trouble> {
         Some(value) => given.number("--limit", value)?,
         None => LONGEST_RECORD,
     };
+    let follow = given.value("--follow").is_some();
     let [file] = given.only("one file")?;
-    let source = source(&given, file)?;
-    Ok(Command::Dump { source, limit })
+    match source(&given, file)? {
+        Source::File(file) if follow => Ok(Command::Follow { file, limit }),
+        Source::StandardInput if follow => Err(given.wrong(
+            "--follow wants a file's name; standard input is listed as it comes without it",
+        )),
+        source => Ok(Command::Dump { source, limit }),
+    }
 }
 
 fn map(mut given: Given) -> Result<Command, Trouble> {

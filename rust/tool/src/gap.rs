@@ -4,7 +4,7 @@ use crate::words::{blocks, blocks_of, bytes, numbered};
 use mellansko::Reason;
 
 /// A record that can be read: its number, from 1 on, and where it stands.
-#[derive(Clone, Copy)]
+#[derive(Clone, Copy, PartialEq, Eq)]
 pub struct Place {
     pub number: usize,
     pub start: usize,
@@ -20,21 +20,55 @@ pub struct Doubt {
     pub reason: Option<Reason>,
 }
 
+impl Doubt {
+    pub fn bytes(&self) -> usize {
+        self.end - self.start
+    }
+}
+
 /// Ranges in doubt with no record between them that can be read.
 pub struct Gap {
     pub before: Option<Place>,
     pub after: Option<Place>,
-    /// One at least.
+    /// The first of its ranges, as many as are to be listed.
     pub ranges: Vec<Doubt>,
+    /// How many ranges there are in all.
+    number: usize,
+    /// How many bytes are in doubt.
+    pub bytes: usize,
+    /// From the first byte in doubt to the last.
+    start: usize,
+    end: usize,
 }
 
 impl Gap {
-    /// How many bytes are in doubt.
-    pub fn bytes(&self) -> usize {
-        self.ranges
-            .iter()
-            .map(|range| range.end - range.start)
-            .sum()
+    /// One that begins with this range.
+    pub fn new(before: Option<Place>, range: &Doubt) -> Gap {
+        Gap {
+            before,
+            after: None,
+            // Most gaps have one.
+            ranges: Vec::with_capacity(1),
+            number: 0,
+            bytes: 0,
+            start: range.start,
+            end: range.end,
+        }
+    }
+
+    /// Counts a range, and keeps it unless that would be more than so many.
+    pub fn add(&mut self, range: Doubt, most: usize) {
+        self.number += 1;
+        self.bytes += range.bytes();
+        self.end = range.end;
+        if self.ranges.len() < most {
+            self.ranges.push(range);
+        }
+    }
+
+    /// How many of its ranges are not kept.
+    pub fn hidden(&self) -> usize {
+        self.number - self.ranges.len()
     }
 
     /// How many bytes it has, in which blocks, and between which records it lies.
@@ -58,15 +92,8 @@ impl Gap {
             ),
             (None, None) => "from the first byte to the last".into(),
         };
-        let (first, last) = self.blocks();
+        let (first, last) = blocks_of(self.start, self.end);
         let blocks = blocks(first, last);
-        format!("Gap of {} in {blocks}, {lies}", bytes(self.bytes()))
-    }
-
-    fn blocks(&self) -> (usize, usize) {
-        let (first, last) = (self.ranges.first(), self.ranges.last());
-        let start = first.map_or(0, |range| range.start);
-        let end = last.map_or(1, |range| range.end);
-        blocks_of(start, end)
+        format!("Gap of {} in {blocks}, {lies}", bytes(self.bytes))
     }
 }

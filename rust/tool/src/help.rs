@@ -119,7 +119,7 @@ Exit status:
 ";
 
 pub const DUMP: &str = "\
-mellansko dump [--limit N] FILE
+mellansko dump [--limit N] [--follow] FILE
 
 Lists all that is in a journal in its order, one line each, with plain numbers:
 
@@ -140,14 +140,26 @@ Refusals:
   5   the limit is more than {RECORD}
 
   --limit N   skip records of more than N bytes, for reason 7; if not given, N is {RECORD}
+  --follow    go on as the file grows, until you end it, with Ctrl-C
 
-FILE may be - for standard input; after -- a name may begin with a dash.
+Each line is written as soon as no byte that may still come can change it, so a journal can be watched as it comes, on \
+standard input, or with --follow in a file that another program writes. With --follow no end is told: what the file \
+ends in waits for its rest. If the file gets shorter, is replaced or removed, or grows where the last bytes read are \
+other ones by now, that is said, and ends it. Other changes to what was read are not noticed: verify judges the file as \
+it is then.
+
+If what brings the bytes to standard input fails, they may end where a journal can end: look at its exit status too.
+
+A file that is too long is refused at once; what comes over a pipe, after the lines on its beginning.
+
+FILE may be - for standard input, though not with --follow; after -- a name may begin with a dash.
 
 Exit status:
 
   0   no damage found
   1   something is in doubt
-  2   refused, or it could not be read
+  2   refused, or it could not be read to its end
+  with --follow always 2, unless it is ended by a signal
 ";
 
 pub const MAP: &str = "\

@@ -1,13 +1,14 @@
 //! The bytes of a journal, from a file or from standard input.
 
+use crate::fed::Fed;
 use crate::progress::Progress;
 use crate::shell::{another, me, operand, typed};
 use crate::trouble::{note, Trouble};
 use crate::words::{bytes, grouped, short};
 use crate::wrap::tied;
-use mellansko::{Condition, Refusal, LONGEST_LOG, LONGEST_RECORD};
+use mellansko::{Condition, Feed, NotRead, Refusal, LONGEST_LOG, LONGEST_RECORD};
 use std::ffi::{OsStr, OsString};
-use std::fs::File;
+use std::fs::{self, File};
 use std::io::{self, IsTerminal, Read};
 
 /// Where a journal comes from.
@@ -32,6 +33,14 @@ impl Source {
         }
     }
 
+    /// Whether it can be read a second time, and is the same then, unless somebody changes it.
+    pub fn can_be_read_again(&self) -> bool {
+        match self {
+            Source::File(path) => fs::metadata(path).is_ok_and(|about| about.is_file()),
+            Source::StandardInput => false,
+        }
+    }
+
     /// All of it; of one that is too long, one byte more than a journal may have, at which the
     /// proved calls refuse it.
     pub fn read(&self, progress: &mut Progress) -> Result<Vec<u8>, Trouble> {
@@ -39,20 +48,69 @@ impl Source {
             Source::File(path) => {
                 File::open(path).and_then(|file| read(file, self.name(), LONGEST_LOG, progress))
             }
-            Source::StandardInput => {
-                let prompt =
-                    "reading a journal from the terminal; end it with Ctrl-D on a line of its own";
-                return read_input(prompt, LONGEST_LOG, progress);
-            }
+            Source::StandardInput => return read_input(PROMPT, LONGEST_LOG, progress),
         }
         .map_err(|error| Trouble::io(self.name(), "be read", &error))
+    }
+
+    /// It as it comes, with a limit on the length of a record.
+    pub fn fed<'a>(
+        &'a self,
+        limit: usize,
+        progress: &'a mut Progress,
+    ) -> Result<Fed<'a, Box<dyn Read>>, NotRead> {
+        let file = match self {
+            Source::File(path) => Some(open(path)?),
+            Source::StandardInput => None,
+        };
+        let feed = Feed::with_limit(limit)?;
+        let (from, progress): (Box<dyn Read>, _) = match file {
+            Some(file) => (Box::new(file), Some(progress)),
+            None => {
+                let input = io::stdin().lock();
+                let typed = is_typed(&input, PROMPT);
+                (Box::new(input), (!typed).then_some(progress))
+            }
+        };
+        Ok(Fed::new(from, self.name(), feed, progress))
+    }
+
+    /// The message for a journal of which nothing is told, since it can't be read or is refused.
+    pub fn not_read(&self, not_read: NotRead) -> Trouble {
+        match not_read {
+            NotRead::Io(error) => Trouble::io(self.name(), "be read", &error),
+            NotRead::Refused(refusal) => self.refused(refusal),
+        }
     }
 
     /// The message for a journal that the reader refuses.
     pub fn refused(&self, refusal: Refusal) -> Trouble {
         Trouble::of(self.name(), &why_refused(refusal, self.word()))
     }
+
+    /// The same after lines on its beginning.
+    pub fn refused_later(&self, refusal: Refusal) -> Trouble {
+        let (why, _) = why_and_advice(refusal, self.word());
+        let what =
+            format!("{why}. The lines are of its beginning, and nothing after it was judged");
+        Trouble::of(self.name(), &what)
+    }
 }
+
+/// A file to be read as it comes. One that is too long is refused before anything of it is read, so
+/// that no line on its beginning passes for a line on all of it. How long a pipe is shows when it
+/// has come, and then the proved reader refuses it.
+pub fn open(path: &OsStr) -> Result<File, NotRead> {
+    let file = File::open(path)?;
+    let about = file.metadata()?;
+    if about.is_file() && about.len() > LONGEST_LOG as u64 {
+        let (condition, given) = (Condition::LogTooLong, 0);
+        return Err(Refusal { condition, given }.into());
+    }
+    Ok(file)
+}
+
+const PROMPT: &str = "reading a journal from the terminal; end it with Ctrl-D on a line of its own";
 
 const INPUT: &str = "standard input";
 
@@ -61,14 +119,20 @@ const INPUT: &str = "standard input";
 pub fn read_input(prompt: &str, most: usize, progress: &mut Progress) -> Result<Vec<u8>, Trouble> {
     let name = OsStr::new(INPUT);
     let input = io::stdin().lock();
-    match input.is_terminal() {
-        true => {
-            note(prompt);
-            read(input, name, most, &mut Progress::silent())
-        }
+    match is_typed(&input, prompt) {
+        true => read(input, name, most, &mut Progress::silent()),
         false => read(input, name, most, progress),
     }
     .map_err(|error| Trouble::io(name, "be read", &error))
+}
+
+/// Whether somebody is to type it, who is told so.
+fn is_typed(input: &impl IsTerminal, prompt: &str) -> bool {
+    let typed = input.is_terminal();
+    if typed {
+        note(prompt);
+    }
+    typed
 }
 
 /// At most one byte more than so many.
@@ -103,6 +167,11 @@ pub fn begin_another(file: &OsStr) -> String {
 
 /// Why a proved call refuses a journal or a record, and what to do.
 pub fn why_refused(refusal: Refusal, file: &OsStr) -> String {
+    let (why, advice) = why_and_advice(refusal, file);
+    format!("{why}{advice}")
+}
+
+fn why_and_advice(refusal: Refusal, file: &OsStr) -> (String, String) {
     let (log, record) = (grouped(LONGEST_LOG), grouped(LONGEST_RECORD));
     let (why, advice) = match refusal.condition {
         Condition::LogTooLong => (
@@ -124,7 +193,7 @@ pub fn why_refused(refusal: Refusal, file: &OsStr) -> String {
         _ => (refusal.to_string(), String::new()),
     };
     let number = refusal.condition.number();
-    format!("{why} (refusal {number}){advice}")
+    (format!("{why} (refusal {number})"), advice)
 }
 
 /// What to type for as much of a file as a journal may have.

@@ -5,7 +5,9 @@
 
 mod arguments;
 mod commands;
+mod fed;
 mod gap;
+mod gaps;
 mod help;
 mod journal;
 mod output;
@@ -17,6 +19,7 @@ mod survey;
 mod trouble;
 mod twins;
 mod verdict;
+mod walk;
 mod words;
 mod wrap;
 
@@ -60,6 +63,7 @@ fn run() -> Result<Status, Trouble> {
         }
         Command::Verify { sources, all } => commands::verify(&sources, all, &mut output)?,
         Command::Dump { source, limit } => commands::dump(&source, limit, &mut output)?,
+        Command::Follow { file, limit } => commands::follow(&file, limit, &mut output)?,
         Command::Map {
             source,
             blocks,

@@ -1,77 +1,95 @@
 //! What one reading of a journal finds.
 
-use crate::gap::{Doubt, Gap, Place};
-use crate::progress::Progress;
-use crate::words::{blocks_of, short};
+use crate::gap::{Doubt, Place};
+use crate::gaps::Gaps;
+use crate::walk::{Thing, Walk};
+use crate::words::blocks_of;
 use crate::Status;
-use mellansko::{Answer, Reading, Reason, Record, Refusal, Tail, BLOCK};
-use std::ffi::OsStr;
+use mellansko::{NotRead, Reason, BLOCK};
+use std::io::Read;
 
 pub struct Survey {
     /// The journal's bytes.
     pub length: usize,
     /// The last record that can be read.
     pub last: Option<Place>,
-    /// What is in doubt, in order.
-    pub gaps: Vec<Gap>,
-    /// For each block, whether a record runs on from it into the next.
-    pub runs_on: Vec<bool>,
+    /// What is in doubt.
+    pub gaps: Gaps,
+    /// Why, each reason once.
+    pub reasons: Vec<Reason>,
+    /// Where the torn tail starts, if there is one.
+    pub torn: Option<usize>,
+    /// What is in each block. A journal has at most 512 blocks, or it is refused.
+    pub marks: Vec<Mark>,
+}
+
+/// What is in a block.
+#[derive(Clone, Copy, Default)]
+pub struct Mark {
+    /// Whether a skipped range has a byte in it.
+    pub doubt: bool,
+    /// Whether the torn tail has.
+    pub torn: bool,
+    /// Whether a record runs on from it into the next.
+    pub runs_on: bool,
 }
 
 impl Survey {
-    pub fn of(log: &[u8], name: &OsStr, progress: &mut Progress) -> Result<Survey, Refusal> {
-        let mut reading = Reading::of(log)?;
+    /// Goes through a journal to its end. Of its gaps so many are kept, and so many ranges of each.
+    /// Each piece that comes is handed on.
+    pub fn of(
+        mut walk: Walk<impl Read>,
+        most: usize,
+        mut piece: impl FnMut(&[u8]),
+    ) -> Result<Survey, NotRead> {
         let mut survey = Survey {
-            length: log.len(),
+            length: 0,
             last: None,
-            gaps: Vec::new(),
-            runs_on: vec![false; log.len().div_ceil(BLOCK)],
+            gaps: Gaps::new(most),
+            reasons: Vec::new(),
+            torn: None,
+            marks: Vec::new(),
         };
-        while let Some(answer) = reading.advance() {
-            match answer {
-                Answer::Record { record, .. } => survey.add(&record),
-                Answer::Skip(skip) => survey.doubt(skip.start, skip.end, Some(skip.reason)),
-                Answer::End(Tail::Clean) => {}
-                Answer::End(Tail::Torn(start)) => survey.doubt(start, log.len(), None),
+        while let Some(thing) = walk.next(&mut piece)? {
+            match thing {
+                Thing::Record(place) => survey.record(place),
+                Thing::Doubt(range) => survey.doubt(range),
             }
-            progress.show(|| {
-                let percent = reading.place() * 100 / log.len().max(1);
-                format!("{}: {percent} % judged", short(name))
-            });
         }
+        survey.length = walk.came();
+        survey.marks.resize(survey.blocks(), Mark::default());
         Ok(survey)
     }
 
-    fn add(&mut self, record: &Record) {
-        let place = Place {
-            number: self.records() + 1,
-            start: record.start,
-            end: record.end,
-        };
-        if let Some(gap) = self.open_gap() {
-            gap.after = Some(place);
-        }
+    fn record(&mut self, place: Place) {
+        self.gaps.close(place);
         self.last = Some(place);
-        let (first, last) = blocks_of(record.start, record.end);
-        self.runs_on[first - 1..last - 1].fill(true);
+        let (first, last) = blocks_of(place.start, place.end);
+        self.mark(first, last - 1, |mark| mark.runs_on = true);
     }
 
-    fn doubt(&mut self, start: usize, end: usize, reason: Option<Reason>) {
-        let range = Doubt { start, end, reason };
-        let before = self.last;
-        match self.open_gap() {
-            Some(gap) => gap.ranges.push(range),
-            None => self.gaps.push(Gap {
-                before,
-                after: None,
-                ranges: vec![range],
-            }),
+    fn doubt(&mut self, range: Doubt) {
+        self.gaps.add(self.last, range);
+        let (first, last) = blocks_of(range.start, range.end);
+        match range.reason {
+            Some(reason) => {
+                self.mark(first, last, |mark| mark.doubt = true);
+                if !self.reasons.contains(&reason) {
+                    self.reasons.push(reason);
+                }
+            }
+            None => {
+                self.mark(first, last, |mark| mark.torn = true);
+                self.torn = Some(range.start);
+            }
         }
     }
 
-    /// The gap after which no record has been read so far.
-    fn open_gap(&mut self) -> Option<&mut Gap> {
-        self.gaps.last_mut().filter(|gap| gap.after.is_none())
+    /// Marks the blocks from one to another, counted from 1.
+    fn mark(&mut self, first: usize, last: usize, mark: impl FnMut(&mut Mark)) {
+        let blocks = self.marks.len().max(last);
+        self.marks.resize(blocks, Mark::default());
+        self.marks[first - 1..last].iter_mut().for_each(mark);
     }
 
     /// How many records can be read.
@@ -84,20 +102,9 @@ impl Survey {
     }
 
     pub fn status(&self) -> Status {
-        match self.gaps.is_empty() {
-            true => Status::Done,
-            false => Status::Doubt,
+        match self.gaps.number() {
+            0 => Status::Done,
+            _ => Status::Doubt,
         }
-    }
-
-    /// Every range in doubt, in order.
-    pub fn doubtful(&self) -> impl Iterator<Item = &Doubt> + '_ {
-        self.gaps.iter().flat_map(|gap| &gap.ranges)
-    }
-
-    /// Where the torn tail starts, if there is one.
-    pub fn torn(&self) -> Option<usize> {
-        let last = self.gaps.last()?.ranges.last()?;
-        last.reason.is_none().then_some(last.start)
     }
 }

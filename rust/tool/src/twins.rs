@@ -4,7 +4,8 @@
 use crate::words::{count, grouped, numbered};
 use crate::wrap::tied;
 use mellansko::BLOCK;
-use std::collections::HashMap;
+use std::collections::hash_map::{HashMap, RandomState};
+use std::hash::{BuildHasher, Hasher};
 
 #[derive(Default)]
 pub struct Twins {
@@ -14,24 +15,67 @@ pub struct Twins {
     first: Option<(usize, usize)>,
 }
 
-impl Twins {
-    pub fn in_log(log: &[u8]) -> Twins {
-        let mut firsts: HashMap<&[u8], usize> = HashMap::new();
-        let mut twins = Twins::default();
-        for (block, number) in log.chunks_exact(BLOCK).zip(1..) {
-            // One byte over and over is no data, but a block that was never written, or was erased.
-            if block.iter().all(|byte| *byte == block[0]) {
-                continue;
-            }
-            let earlier = *firsts.entry(block).or_insert(number);
-            if earlier != number {
-                twins.number += 1;
-                twins.first.get_or_insert((number, earlier));
-            }
+/// Finds them while a journal comes. It holds one block, and a digest of each before it, of which
+/// there are at most 512: a longer journal is refused.
+///
+/// A digest has 128 bits, under keys that are drawn anew for each run. So nobody can make blocks
+/// that differ and pass for equal, and that two happen to is out of reach. What came over a pipe
+/// could not be read again to compare it.
+pub struct Comparing {
+    block: Vec<u8>,
+    keys: [RandomState; 2],
+    /// The first block with each digest, and how many blocks there were.
+    firsts: HashMap<[u64; 2], usize>,
+    blocks: usize,
+    twins: Twins,
+}
+
+impl Comparing {
+    pub fn new() -> Comparing {
+        Comparing {
+            block: Vec::with_capacity(BLOCK),
+            keys: [RandomState::new(), RandomState::new()],
+            firsts: HashMap::new(),
+            blocks: 0,
+            twins: Twins::default(),
         }
-        twins
     }
 
+    /// The journal's next bytes, none of them from beyond the block that has begun.
+    pub fn add(&mut self, piece: &[u8]) {
+        self.block.extend_from_slice(piece);
+        assert!(self.block.len() <= BLOCK, "a piece of one block");
+        if self.block.len() == BLOCK {
+            self.compare();
+            self.block.clear();
+        }
+    }
+
+    fn compare(&mut self) {
+        self.blocks += 1;
+        // One byte over and over is no data, but a block that was never written, or was erased.
+        if self.block.iter().all(|byte| *byte == self.block[0]) {
+            return;
+        }
+        let digest = self.keys.each_ref().map(|key| {
+            let mut hasher = key.build_hasher();
+            hasher.write(&self.block);
+            hasher.finish()
+        });
+        let earlier = *self.firsts.entry(digest).or_insert(self.blocks);
+        if earlier != self.blocks {
+            self.twins.number += 1;
+            self.twins.first.get_or_insert((self.blocks, earlier));
+        }
+    }
+
+    /// What was found. A block that is not all there is not compared.
+    pub fn twins(self) -> Twins {
+        self.twins
+    }
+}
+
+impl Twins {
     pub fn warning(&self) -> Option<String> {
         let (block, earlier) = self.first?;
         Some(match self.number {

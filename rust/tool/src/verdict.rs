@@ -1,7 +1,7 @@
 //! The answer in one line: what a reading found, and no more than that.
 
 use crate::survey::Survey;
-use crate::words::{blocks_among, blocks_of, bytes, count, from_to, grouped, numbered};
+use crate::words::{blocks_among, bytes, count, from_to, grouped, numbered};
 use crate::wrap::TIED;
 
 impl Survey {
@@ -9,7 +9,7 @@ impl Survey {
         if self.length == 0 {
             return "no damage found, but it is empty: it has no bytes and no records".into();
         }
-        if self.gaps.is_empty() {
+        if self.gaps.number() == 0 {
             return format!(
                 "no damage found in its {}, {}. It has {}",
                 bytes(self.length),
@@ -17,8 +17,8 @@ impl Survey {
                 self.records_and_last("")
             );
         }
-        let doubt: usize = self.gaps.iter().map(|gap| gap.bytes()).sum();
-        let torn = match self.torn() {
+        let doubt = self.gaps.bytes();
+        let torn = match self.torn {
             Some(start) => format!("; its end is torn from {} on", numbered("byte", start)),
             None => String::new(),
         };
@@ -54,11 +54,11 @@ impl Survey {
     /// The blocks that have a byte in doubt, as runs of their numbers from 1 on.
     fn doubtful_blocks(&self) -> Vec<(usize, usize)> {
         let mut runs: Vec<(usize, usize)> = Vec::new();
-        for range in self.doubtful() {
-            let (first, last) = blocks_of(range.start, range.end);
+        for (mark, block) in self.marks.iter().zip(1..) {
             match runs.last_mut() {
-                Some(run) if first <= run.1 + 1 => run.1 = run.1.max(last),
-                _ => runs.push((first, last)),
+                _ if !mark.doubt && !mark.torn => {}
+                Some(run) if run.1 + 1 == block => run.1 = block,
+                _ => runs.push((block, block)),
             }
         }
         runs

@@ -93,7 +93,7 @@ fn no_command_gives_help_as_a_complaint() {
 }
 
 /// Bad arguments, and what the message says of them.
-const BAD: [(&[&str], &[&str]); 40] = [
+const BAD: [(&[&str], &[&str]); 45] = [
     (
         &["vrify", "x"],
         &["no command vrify", "verify, dump, map, cat and append"],
@@ -153,6 +153,20 @@ const BAD: [(&[&str], &[&str]); 40] = [
         &["dump", "--limit", "number", "1,000"],
     ),
     (&["dump", "--lim", "1", "x"], &["dump", "no option --lim"]),
+    (
+        &["dump", "--follow", "-"],
+        &["dump", "--follow", "file's name", "standard input"],
+    ),
+    (&["dump", "--follow"], &["dump", "one file", "0"]),
+    (&["dump", "--follow", "x", "y"], &["dump", "one file", "2"]),
+    (
+        &["dump", "--follow=x", "x"],
+        &["dump", "--follow", "no value"],
+    ),
+    (
+        &["verify", "--follow", "x"],
+        &["verify", "no option --follow"],
+    ),
     (&["map"], &["map", "one file", "0"]),
     (&["map", "x", "y"], &["map", "one file", "2"]),
     (

@@ -1,10 +1,12 @@
-//! `mellansko append` on a disk that fails, and beside a program that takes no lock.
+//! `mellansko append` on a disk that fails, and `append` and `verify` beside a program that takes no
+//! lock.
 
 mod common;
 
 use common::expect::written;
 use common::files::{left_out, Folder};
 use common::{fed, ran, tool, Ran};
+use reference::log::{fragment, FULL, LAST};
 use std::fs;
 use std::path::{Path, PathBuf};
 use std::process::{Command, Stdio};
@@ -29,6 +31,10 @@ fn faults(folder: &Folder) -> Option<PathBuf> {
 fn appending(library: &Path, words: &[&str], file: &Path, fault: (&str, &str)) -> Command {
     let mut command = tool();
     command.arg("append").args(words).arg(file);
+    with(library, fault, command)
+}
+
+fn with(library: &Path, fault: (&str, &str), mut command: Command) -> Command {
     // The library by its name and its folder: LD_PRELOAD takes no path with a space.
     let [name, folder] = [library.file_name(), library.parent().map(Path::as_os_str)];
     command.env("LD_PRELOAD", name.expect("a name"));
@@ -101,4 +107,32 @@ fn a_journal_that_is_replaced_before_it_is_locked_gets_no_record() {
     );
     let bytes = |name: &str| fs::read(folder.join(name)).expect("a file");
     assert_eq!((bytes("aside"), bytes("log")), (before, Vec::new()));
+}
+
+/// What is listed is what the answer speaks of, though it takes several readings of the file.
+#[test]
+fn a_list_that_is_longer_than_twenty_is_of_the_file_that_was_judged() {
+    let folder = Folder::new("faults-list");
+    let Some(library) = faults(&folder) else {
+        return;
+    };
+    let log = [fragment(FULL, b"1"), fragment(LAST, b"2")].concat();
+    let verify = || {
+        let mut command = tool();
+        command.args(["verify", "--all", "log"]);
+        command.current_dir(&*folder);
+        command
+    };
+    let file = folder.file("log", &log.repeat(30));
+    let plain = ran(&mut verify());
+    assert_eq!(plain.text().matches("\nGap of ").count(), 30);
+    // What is added later is no part of it.
+    let grown = ran(&mut with(&library, ("GROW", "log"), verify()));
+    assert!(fs::metadata(&file).expect("the file").len() > 30 * 16);
+    assert_eq!((grown.status, grown.text()), (Some(1), plain.text()));
+
+    folder.file("log", &log.repeat(30));
+    let changed = ran(&mut with(&library, ("CHANGE", "log"), verify()));
+    assert_eq!(changed.lines()[0], plain.lines()[0]);
+    changed.complained(2, &["log", "changed while it was read"]);
 }

@@ -6,6 +6,7 @@ mod common;
 use common::expect::{count, dumped, longest_log, written, Found};
 use common::files::{as_nobody, in_advice, release, Folder};
 use common::{fed, ran, tool, Ran};
+use reference::log::{BLOCK, LONGEST_LOG};
 use std::ffi::OsString;
 use std::fs;
 use std::os::unix::ffi::OsStringExt;
@@ -95,7 +96,9 @@ fn the_longest_log_is_read_and_one_byte_more_refused() {
 
     log.push(0);
     let file = folder.file("times", &log);
-    each_refuses(&file, "times");
+    for command in readers(&file) {
+        refuses(command, &file, "times");
+    }
     let ran = fed(tool().args(["verify", "-"]), &log);
     ran.failed(
         2,
@@ -108,26 +111,41 @@ fn the_longest_log_is_read_and_one_byte_more_refused() {
     );
 }
 
+fn is_dump(command: &Command) -> bool {
+    command.get_args().any(|word| word == "dump")
+}
+
 /// As too long, of which the dump says so on standard output too.
-fn each_refuses(file: &Path, name: &str) {
-    for mut command in readers(file) {
-        let dump = command.get_args().any(|word| word == "dump");
-        let ran = ran(&mut command);
-        assert_eq!(ran.text(), if dump { "X 1\n" } else { "" });
-        let file = in_advice(file);
-        let advice = format!("head -c 16777216 {file} | mellansko verify -");
-        ran.complained(
-            2,
-            &[name, "longer than 16 777 216 bytes", "refusal 1", &advice],
-        );
-    }
+fn refuses(mut command: Command, file: &Path, name: &str) {
+    let dump = is_dump(&command);
+    let ran = ran(&mut command);
+    assert_eq!(ran.text(), if dump { "X 1\n" } else { "" });
+    let file = in_advice(file);
+    let advice = format!("head -c 16777216 {file} | mellansko verify -");
+    ran.complained(
+        2,
+        &[name, "longer than 16 777 216 bytes", "refusal 1", &advice],
+    );
 }
 
 /// Of what never ends no more is read than it takes to refuse it.
 #[test]
 fn an_endless_file_is_refused_soon_and_in_little_memory() {
     let begun = Instant::now();
-    each_refuses(Path::new("/dev/zero"), "/dev/zero");
+    let zeros = Path::new("/dev/zero");
+    let readers = readers(zeros).into_iter();
+    readers
+        .filter(|command| !is_dump(command))
+        .for_each(|command| refuses(command, zeros, "/dev/zero"));
+    // Its length is not known before, so what is certain is listed by then.
+    let ran_dump = run!("dump", zeros);
+    let block = |i: usize| format!("S {} {} 2\n", i * BLOCK, (i + 1) * BLOCK);
+    let blocks: String = (0..LONGEST_LOG / BLOCK).map(block).collect();
+    assert!(ran_dump.text() == blocks + "X 1\n");
+    ran_dump.complained(
+        2,
+        &["/dev/zero", "longer than 16 777 216 bytes", "refusal 1"],
+    );
     let folder = Folder::new("files-endless");
     folder.file("log", b"");
     for (words, says) in [

@@ -124,6 +124,8 @@ fn of_more_than_twenty_gaps_the_first_twenty_are_listed() {
             continue;
         };
         let lines = few.lines();
+        // Each with its range, as in the list of all.
+        assert_eq!(lines[1..=2 * 20], all.lines()[1..=2 * 20]);
         let last = lines.iter().rposition(|line| is_heading(&line));
         let [said, how, command] = lines[last.unwrap() + 2..][..3] else {
             panic!("{lines:?}");
@@ -140,6 +142,7 @@ fn of_more_than_twenty_gaps_the_first_twenty_are_listed() {
 
 #[test]
 fn of_more_than_twenty_ranges_in_a_gap_the_first_twenty_are_listed() {
+    let folder = Folder::new("gaps-ranges");
     for ranges in [20, 21, 500] {
         let sound = fragment(FULL, b"1");
         let orphans = fragment(LAST, b"orphan").repeat(ranges);
@@ -148,6 +151,12 @@ fn of_more_than_twenty_ranges_in_a_gap_the_first_twenty_are_listed() {
         let few = fed(tool().args(["verify", "-"]), &log);
         let all = fed(tool().args(["verify", "--all", "-"]), &log);
         check("standard input", &log, &all.lines());
+        // A file is read again for it.
+        folder.file("standard input", &log);
+        let words = ["verify", "--all", "standard input"];
+        let again = ran(tool().args(words).current_dir(&*folder));
+        let list = |text: &str| text.split("\n\n").next().map(String::from);
+        assert_eq!(list(again.text()), list(all.text()));
         let points = |text: &str| {
             text.lines()
                 .filter(|line| line.starts_with("  - bytes"))

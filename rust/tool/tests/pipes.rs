@@ -15,7 +15,8 @@ use std::process::{Command, Stdio};
 /// A run of each kind that has something to say on standard output.
 fn speakers(folder: &Folder) -> Vec<Command> {
     folder.file("log", &mixed_log());
-    let words: [&[&str]; 9] = [
+    let words: [&[&str]; 10] = [
+        &["dump", "--follow", "log"],
         &["verify", "log"],
         &["verify", "log", "-"],
         &["dump", "log"],

@@ -30,7 +30,7 @@ fn speakers(folder: &Folder) -> Vec<Command> {
     folder.file("mixed", &mixed_log());
     folder.file("equal", &written(&vec![vec![7; BLOCK - HEADER]; 50]));
     folder.file("no journal", &[b'x'; 100_000]);
-    let words: [&[&str]; 19] = [
+    let words: [&[&str]; 22] = [
         &["verify", "clean"],
         &["verify", "damaged"],
         &["verify", "torn"],
@@ -47,6 +47,9 @@ fn speakers(folder: &Folder) -> Vec<Command> {
         &["append", "--new", "torn"],
         &["append", "--new", "no/such/folder/log"],
         &["dump", "--limit", "262145", "clean"],
+        &["dump", "/dev/zero"],
+        &["dump", "--follow", "/dev/null"],
+        &["dump", "--follow", "-"],
         &["verify", "--nonsense"],
         &["nonsense"],
         &[],
@@ -124,9 +127,10 @@ fn numbers_can_not_be_misread() {
     let mut all: Vec<String> = Vec::new();
     for mut command in speakers(&folder) {
         let ran = ran(&mut command);
-        // A record has what numbers it has.
-        let record = command.get_args().any(|word| word == "cat");
-        all.extend((!record).then(|| ran.text().into()));
+        // A record has what numbers it has, and a dump's lines are for programs.
+        let mut words = command.get_args();
+        let other = words.any(|word| word == "cat" || word == "/dev/zero");
+        all.extend((!other).then(|| ran.text().into()));
         all.push(ran.err);
     }
     for log in long_logs(&mut random, 40) {

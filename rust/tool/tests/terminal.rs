@@ -4,7 +4,7 @@
 mod common;
 
 use common::damage::mixed_log;
-use common::expect::{without_codes, written};
+use common::expect::{dumped, without_codes, written};
 use common::files::{release, Folder};
 use common::terminal::{is_there, shown, terminal, Showing, ERASE};
 use common::{fed, finish, tool, Ran};
@@ -87,6 +87,36 @@ fn slow_reading_shows_how_far_it_is_and_leaves_nothing_behind() {
             );
         }
     }
+}
+
+/// With lines and progress on one terminal each line has a row of its own, and no progress is left.
+#[test]
+fn lines_that_come_meanwhile_are_not_mixed_with_progress() {
+    if !is_there() {
+        return;
+    }
+    let log = mixed_log();
+    let (near, far) = terminal();
+    let showing = shown(near);
+    let mut command = tool();
+    command.args(["dump", "-"]).stdin(Stdio::piped());
+    command.stdout(far.try_clone().expect("a terminal"));
+    let mut child = command.stderr(far).spawn().expect("the tool");
+    drop(command);
+    let mut input = child.stdin.take().expect("its input");
+    // So often that some of it is shown between the lines.
+    log.chunks(6_000).for_each(|piece| {
+        input.write_all(piece).expect("it is read");
+        thread::sleep(Duration::from_millis(40));
+    });
+    drop(input);
+    finish(child, Vec::new());
+    let showing = showing.all();
+    assert!(showing.contains(" read"), "{showing:?}");
+    let last_shown = |row: &str| row.rsplit(ERASE).next().unwrap_or(row).to_string() + "\n";
+    let rows = showing.strip_suffix("\r\n").expect("a last row");
+    let rows: String = rows.split("\r\n").map(last_shown).collect();
+    assert_eq!(rows, dumped(&log, 262_144), "{showing:?}");
 }
 
 #[test]
@@ -217,23 +247,25 @@ fn nothing_is_shown_into_what_is_being_typed() {
         return;
     }
     let folder = Folder::new("terminal-typing");
-    let file = folder.file("log", b"");
-    let (mut near, far) = terminal();
-    let showing = shown(near.try_clone().expect("a terminal"));
-    let mut command = tool();
-    command.arg("append").arg(&file);
-    command.stdin(far.try_clone().expect("a terminal"));
-    command.stdout(Stdio::piped()).stderr(far);
-    let child = command.spawn().expect("the tool");
-    drop(command);
-    // However long that takes.
-    slowly(&mut near, b"one\ntwo\nthree\nfour\n\x04");
-    finish(child, Vec::new());
-    let showing = showing.all();
-    assert!(
-        showing.contains("Ctrl-D") && !showing.contains(" read"),
-        "{showing:?}"
-    );
+    folder.file("log", b"");
+    for words in [["append", "log"], ["verify", "-"], ["dump", "-"]] {
+        let (mut near, far) = terminal();
+        let showing = shown(near.try_clone().expect("a terminal"));
+        let mut command = tool();
+        command.args(words).current_dir(&*folder);
+        command.stdin(far.try_clone().expect("a terminal"));
+        command.stdout(Stdio::piped()).stderr(far);
+        let child = command.spawn().expect("the tool");
+        drop(command);
+        // However long that takes.
+        slowly(&mut near, b"one\ntwo\nthree\nfour\n\x04");
+        finish(child, Vec::new());
+        let showing = showing.all();
+        assert!(
+            showing.contains("Ctrl-D") && !showing.contains(ERASE),
+            "{showing:?}"
+        );
+    }
 }
 
 #[test]

@@ -8,7 +8,7 @@ use crate::wrap::tied;
 use std::ffi::{OsStr, OsString};
 
 /// The options that take no value.
-const SWITCHES: [&str; 2] = ["--new", "--all"];
+const SWITCHES: [&str; 3] = ["--new", "--all", "--follow"];
 
 pub struct Given {
     command: &'static str,

@@ -5,6 +5,7 @@
 
 mod file;
 
+use crate::fed::Fed;
 use crate::journal::{self, why_refused};
 use crate::page::Page;
 use crate::progress::Progress;
@@ -12,9 +13,10 @@ use crate::screen::Screen;
 use crate::shell::typed;
 use crate::survey::Survey;
 use crate::trouble::{note, Trouble};
+use crate::walk::Walk;
 use crate::words::{bytes, from_to, grouped, shown};
 use crate::Status;
-use mellansko::{Next, Record, Refusal, LONGEST_LOG, LONGEST_RECORD};
+use mellansko::{Feed, Next, NotRead, Record, Refusal, LONGEST_LOG, LONGEST_RECORD};
 use std::ffi::{OsStr, OsString};
 use std::io::{self, IsTerminal, Write};
 
@@ -54,8 +56,11 @@ fn refused(path: &OsStr, refusal: Refusal) -> Trouble {
 
 /// What is in the log, if nothing is in doubt there; if something is, that is told.
 fn sound(log: &[u8], path: &OsStr) -> Result<Option<Survey>, Trouble> {
-    let survey = Survey::of(log, path, &mut Progress::new());
-    let survey = survey.map_err(|refusal| refused(path, refusal))?;
+    let walk = Walk::new(Fed::new(log, path, Feed::new(), None));
+    let survey = Survey::of(walk, 0, |_| {}).map_err(|not_read| match not_read {
+        NotRead::Io(error) => Trouble::io(path, "be read", &error),
+        NotRead::Refused(refusal) => refused(path, refusal),
+    })?;
     if survey.status() == Status::Done {
         return Ok(Some(survey));
     }

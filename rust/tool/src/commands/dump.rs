@@ -1,30 +1,71 @@
-//! `mellansko dump`: every answer of the reader, one a line.
+//! `mellansko dump`: every answer of the reader, one a line, each as soon as it is certain.
 
+mod follow;
+mod grown;
+
+pub use follow::follow;
+
+use crate::fed::Fed;
 use crate::journal::Source;
 use crate::output::Output;
 use crate::progress::Progress;
 use crate::trouble::Trouble;
 use crate::Status;
-use mellansko::{Answer, Reading, Tail};
+use mellansko::{Answer, NotRead, Refusal, Tail};
+use std::io::Read;
 
 pub fn dump(source: &Source, limit: usize, output: &mut Output) -> Result<Status, Trouble> {
-    let log = source.read(&mut Progress::new())?;
-    let mut reading = match Reading::with_limit(&log, limit) {
-        Ok(reading) => reading,
-        Err(refusal) => {
-            output.line(&format!("X {}", refusal.condition.number()))?;
-            source.refused(refusal).tell();
-            return Ok(Status::Failed);
+    let mut progress = Progress::new();
+    let mut fed = match source.fed(limit, &mut progress) {
+        Ok(fed) => fed,
+        Err(NotRead::Refused(refusal)) => {
+            return refused(refusal, &source.refused(refusal), output);
         }
+        Err(not_read) => return Err(source.not_read(not_read)),
     };
     let mut status = Status::Done;
-    while let Some(answer) = reading.advance() {
-        if matches!(answer, Answer::Skip(_) | Answer::End(Tail::Torn(_))) {
-            status = Status::Doubt;
+    loop {
+        let listed = list(&mut fed, output)?;
+        status = status.max(listed.status);
+        if listed.ended {
+            return Ok(status);
         }
-        output.line(&line(&answer))?;
+        match fed.read() {
+            Ok([]) => fed.end(),
+            Ok(_) => {}
+            Err(NotRead::Refused(refusal)) => {
+                fed.make_way();
+                return refused(refusal, &source.refused_later(refusal), output);
+            }
+            Err(not_read) => return Err(source.not_read(not_read)),
+        }
     }
-    Ok(status)
+}
+
+/// What lines were about.
+struct Listed {
+    status: Status,
+    /// Whether the end was among it.
+    ended: bool,
+}
+
+/// Writes a line for each answer that is certain, and has them read before anything is waited for.
+fn list(fed: &mut Fed<impl Read>, output: &mut Output) -> Result<Listed, Trouble> {
+    let mut listed = Listed {
+        status: Status::Done,
+        ended: false,
+    };
+    while let Some(answer) = fed.certain() {
+        listed.ended = matches!(answer, Answer::End(_));
+        if matches!(answer, Answer::Skip(_) | Answer::End(Tail::Torn(_))) {
+            listed.status = Status::Doubt;
+        }
+        let line = line(&answer);
+        fed.make_way();
+        output.line(&line)?;
+    }
+    output.flush()?;
+    Ok(listed)
 }
 
 fn line(answer: &Answer) -> String {
@@ -36,4 +77,12 @@ fn line(answer: &Answer) -> String {
         Answer::End(Tail::Clean) => "E clean".into(),
         Answer::End(Tail::Torn(start)) => format!("E torn {start}"),
     }
+}
+
+/// The last line, for programs, and the message, for people, who get it whatever the output is.
+fn refused(refusal: Refusal, why: &Trouble, output: &mut Output) -> Result<Status, Trouble> {
+    let line = format!("X {}", refusal.condition.number());
+    let written = output.line(&line).and_then(|()| output.flush());
+    why.tell();
+    written.map(|()| Status::Failed)
 }

@@ -9,11 +9,12 @@ use crate::progress::Progress;
 use crate::screen::Screen;
 use crate::survey::Survey;
 use crate::trouble::Trouble;
+use crate::walk::Walk;
 use crate::words::{bytes, grouped, shown};
 use crate::wrap::untied;
 use crate::Status;
 use cell::Cell;
-use mellansko::BLOCK;
+use mellansko::{BLOCK, LONGEST_RECORD};
 use std::env;
 use std::io::{self, IsTerminal};
 
@@ -41,9 +42,10 @@ pub fn map(
     output: &mut Output,
 ) -> Result<Status, Trouble> {
     let mut progress = Progress::new();
-    let log = source.read(&mut progress)?;
-    let survey = Survey::of(&log, source.name(), &mut progress)
-        .map_err(|refusal| source.refused(refusal))?;
+    let survey = source
+        .fed(LONGEST_RECORD, &mut progress)
+        .and_then(|fed| Survey::of(Walk::new(fed), 0, |_| {}))
+        .map_err(|not_read| source.not_read(not_read))?;
     drop(progress);
     let mut page = Page::new(Screen::of(&io::stdout()));
     page.entry(&format!("{}: {}.", shown(source.name()), survey.verdict()));

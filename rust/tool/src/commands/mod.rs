@@ -8,6 +8,6 @@ mod verify;
 
 pub use append::append;
 pub use cat::cat;
-pub use dump::dump;
+pub use dump::{dump, follow};
 pub use map::{map, Colour};
 pub use verify::verify;

@@ -1,7 +1,9 @@
 //! `mellansko verify`: what damage journals show, in plain words.
 
 mod advice;
+mod every;
 mod list;
+mod rows;
 
 use crate::journal::Source;
 use crate::output::Output;
@@ -10,9 +12,12 @@ use crate::progress::Progress;
 use crate::screen::Screen;
 use crate::survey::Survey;
 use crate::trouble::Trouble;
-use crate::twins::Twins;
+use crate::twins::{Comparing, Twins};
+use crate::walk::Walk;
 use crate::words::{grouped, shown};
 use crate::Status;
+use mellansko::LONGEST_RECORD;
+use rows::Rows;
 use std::io;
 
 /// What was found in a journal.
@@ -31,7 +36,7 @@ pub fn verify(sources: &[Source], all: bool, output: &mut Output) -> Result<Stat
     let mut progress = Progress::new();
     let mut findings: Vec<_> = sources
         .iter()
-        .map(|source| find(source, &mut progress))
+        .map(|source| find(source, all, &mut progress))
         .collect();
     drop(progress);
     let screen = Screen::of(&io::stdout());
@@ -39,18 +44,30 @@ pub fn verify(sources: &[Source], all: bool, output: &mut Output) -> Result<Stat
         return several(&findings, all, screen, output);
     }
     let finding = findings.remove(0)?;
-    output.page(&alone(&finding, all, screen))?;
+    alone(&finding, all, screen, output)?;
     Ok(finding.survey.status())
 }
 
-fn find<'a>(source: &'a Source, progress: &mut Progress) -> Found<'a> {
-    let log = source.read(progress)?;
-    let survey = Survey::of(&log, source.name(), progress);
+fn find<'a>(source: &'a Source, all: bool, progress: &mut Progress) -> Found<'a> {
+    // Of a file, what is not kept can be read again. Of a pipe all that is asked for has to be kept,
+    // since the answer is to come before it.
+    let most = match all && !source.can_be_read_again() {
+        true => usize::MAX,
+        false => list::MOST,
+    };
+    let (mut comparing, mut beginning) = (Comparing::new(), Vec::new());
+    let survey = source.fed(LONGEST_RECORD, progress).and_then(|fed| {
+        Survey::of(Walk::new(fed), most, |piece| {
+            comparing.add(piece);
+            let missing = advice::BEGINNING - beginning.len();
+            beginning.extend(piece.iter().take(missing));
+        })
+    });
     Ok(Finding {
         source,
-        survey: survey.map_err(|refusal| source.refused(refusal))?,
-        twins: Twins::in_log(&log),
-        beginning: log[..log.len().min(advice::BEGINNING)].to_vec(),
+        survey: survey.map_err(|not_read| source.not_read(not_read))?,
+        twins: comparing.twins(),
+        beginning,
     })
 }
 
@@ -59,29 +76,33 @@ impl Finding<'_> {
         format!("{}: {}.", shown(self.source.name()), self.survey.verdict())
     }
 
-    /// The answer, and then what it is about.
-    fn report(&self, all: bool, screen: Screen) -> Page {
-        let mut page = Page::new(screen);
-        page.entry(&self.verdict());
+    /// Writes the answer, and then what it is about. Gives how many rows that has.
+    fn report(&self, all: bool, screen: Screen, output: &mut Output) -> Result<usize, Trouble> {
+        let mut rows = Rows::new(screen, output);
+        rows.entry(&self.verdict())?;
         if let Some(warning) = self.twins.warning() {
-            page.entry(&warning);
+            rows.entry(&warning)?;
         }
-        list::gaps(self, all, &mut page);
-        page
+        match all && self.survey.gaps.are_hidden() {
+            true => every::gaps(self, &mut rows)?,
+            false => list::gaps(self, &mut rows)?,
+        }
+        Ok(rows.number)
     }
 }
 
 /// All that there is to say of a single journal. If the answer is no longer in sight by then, it
 /// comes again after the list.
-fn alone(finding: &Finding, all: bool, screen: Screen) -> Page {
-    let mut page = finding.report(all, screen);
+fn alone(finding: &Finding, all: bool, screen: Screen, output: &mut Output) -> Result<(), Trouble> {
+    let rows = finding.report(all, screen, output)?;
     let advice = advice::for_one(finding, screen);
-    if page.rows.len() + advice.rows.len() > screen.rows {
-        page.empty_row();
-        page.entry(&finding.verdict());
+    if rows + advice.rows.len() > screen.rows {
+        let mut again = Page::new(screen);
+        again.empty_row();
+        again.entry(&finding.verdict());
+        output.page(&again)?;
     }
-    page.rows.extend(advice.rows);
-    page
+    output.page(&advice)
 }
 
 /// The journals one by one, with the answer for all of them before, and again after what does not
@@ -98,11 +119,7 @@ fn several(
     let mut rows = summary.rows.len();
     for finding in findings {
         match finding {
-            Ok(finding) => {
-                let report = finding.report(all, screen);
-                rows += report.rows.len();
-                output.page(&report)?;
-            }
+            Ok(finding) => rows += finding.report(all, screen, output)?,
             Err(trouble) => {
                 output.flush()?;
                 trouble.tell();

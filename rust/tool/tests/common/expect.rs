@@ -1,5 +1,6 @@
 //! What the tool is to say of a log, by the reference's answers.
 
+use reference::feed::earliest;
 use reference::log::{
     append, next, record_bytes, Appended, Next, Tail, BLOCK, LONGEST_LOG, LONGEST_RECORD,
 };
@@ -109,18 +110,25 @@ fn each_answer(log: &[u8], limit: usize, mut each: impl FnMut(&Next, &[u8])) {
 /// What `dump` is to write.
 pub fn dumped(log: &[u8], limit: usize) -> String {
     let mut lines = String::new();
-    each_answer(log, limit, |answer, _| {
-        lines += &match *answer {
-            Next::Record {
-                start, end, length, ..
-            } => format!("R {start} {end} {length}\n"),
-            Next::Skip { start, end, reason } => format!("S {start} {end} {reason}\n"),
-            Next::End(Tail::Clean) => "E clean\n".into(),
-            Next::End(Tail::Torn(start)) => format!("E torn {start}\n"),
-            Next::Refused { number, .. } => format!("X {number}\n"),
-        }
-    });
+    each_answer(log, limit, |answer, _| lines += &line(answer));
     lines
+}
+
+/// What `dump` is to have written of a log of which this has come, and of which more may come.
+pub fn certain(came: &[u8], limit: usize) -> String {
+    earliest(came, limit).iter().map(line).collect()
+}
+
+fn line(answer: &Next) -> String {
+    match *answer {
+        Next::Record {
+            start, end, length, ..
+        } => format!("R {start} {end} {length}\n"),
+        Next::Skip { start, end, reason } => format!("S {start} {end} {reason}\n"),
+        Next::End(Tail::Clean) => "E clean\n".into(),
+        Next::End(Tail::Torn(start)) => format!("E torn {start}\n"),
+        Next::Refused { number, .. } => format!("X {number}\n"),
+    }
 }
 
 /// A log of these records.

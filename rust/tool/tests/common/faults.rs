@@ -38,13 +38,20 @@ pub unsafe extern "C" fn flock(fd: c_int, how: c_int) -> c_int {
     syscall(FLOCK, fd, how) as c_int
 }
 
-/// When a file has been read to its end, a byte is added to the one that GROW names.
+/// When a file has been read to its end, a byte is added to the one that GROW names, and the first
+/// one of the file that CHANGE names is changed.
 #[no_mangle]
 pub unsafe extern "C" fn read(fd: c_int, to: *mut c_void, most: usize) -> isize {
     let got = syscall(READ, fd, to, most) as isize;
-    if let (0, true, Some(path)) = (got, fd > 2, env::var_os("GROW")) {
-        let other = OpenOptions::new().append(true).open(path);
-        let _ = other.and_then(|mut file| file.write_all(b"x"));
+    if got == 0 && fd > 2 {
+        if let Some(path) = env::var_os("GROW") {
+            let other = OpenOptions::new().append(true).open(path);
+            let _ = other.and_then(|mut file| file.write_all(b"x"));
+        }
+        if let Some(path) = env::var_os("CHANGE") {
+            let other = OpenOptions::new().write(true).open(path);
+            let _ = other.and_then(|mut file| file.write_all(b"x"));
+        }
     }
     got
 }

@@ -6,13 +6,14 @@
 pub mod damage;
 pub mod expect;
 pub mod files;
+pub mod live;
 #[path = "../../../mellansko/tests/random/mod.rs"]
 pub mod random;
 pub mod report;
 pub mod terminal;
 
 use std::io::{Read, Write};
-use std::process::{Child, Command, Stdio};
+use std::process::{Child, Command, ExitStatus, Stdio};
 use std::sync::mpsc::{channel, Receiver};
 use std::thread;
 use std::time::{Duration, Instant};
@@ -112,18 +113,34 @@ pub fn finish(mut child: Child, input: Vec<u8>) -> Ran {
         stdin.map(|mut stdin| stdin.write_all(&input))
     });
     let (out, err) = (gather(child.stdout.take()), gather(child.stderr.take()));
-    let deadline = Instant::now() + PATIENCE;
-    let wait = |from: Receiver<_>| from.recv_timeout(deadline - Instant::now().min(deadline));
-    let (Ok(out), Ok(err)) = (wait(out), wait(err)) else {
-        child.kill().expect("it can be ended");
-        panic!("it hangs");
-    };
-    let status = child.wait().expect("it ends").code();
+    let (out, err) = (wait_for(&mut child, &out), wait_for(&mut child, &err));
+    let status = wait_for_end(&mut child).code();
     let _ = feeder.join();
     let err = String::from_utf8(err).expect("text on standard error");
     assert!(matches!(status, Some(0..=2)), "{status:?}: {err}");
     assert!(!err.contains("panicked"), "{err}");
     Ran { status, out, err }
+}
+
+/// All that a running program writes, once it has closed that output.
+fn wait_for(child: &mut Child, all: &Receiver<Vec<u8>>) -> Vec<u8> {
+    all.recv_timeout(PATIENCE).unwrap_or_else(|_| {
+        child.kill().expect("it can be ended");
+        panic!("it hangs");
+    })
+}
+
+/// Waits for the end of a program, which may have closed its outputs long before, or have none.
+fn wait_for_end(child: &mut Child) -> ExitStatus {
+    let deadline = Instant::now() + PATIENCE;
+    while Instant::now() < deadline {
+        if let Some(status) = child.try_wait().expect("it can be waited for") {
+            return status;
+        }
+        thread::sleep(Duration::from_millis(1));
+    }
+    child.kill().expect("it can be ended");
+    panic!("it hangs");
 }
 
 fn gather(from: Option<impl Read + Send + 'static>) -> Receiver<Vec<u8>> {

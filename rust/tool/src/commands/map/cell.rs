@@ -1,11 +1,10 @@
 //! A cell of the picture: a block, or several.
 
-use crate::survey::Survey;
-use crate::words::blocks_of;
+use crate::survey::{Mark, Survey};
 use crate::wrap::length;
 
 /// What stands in a cell. The letter alone says it, the colour says it again.
-#[derive(Clone, Copy, Default)]
+#[derive(Clone, Copy)]
 pub struct Cell {
     doubt: bool,
     torn: bool,
@@ -13,18 +12,13 @@ pub struct Cell {
 }
 
 pub fn cells(survey: &Survey, blocks: usize) -> Vec<Cell> {
-    let mut cells = vec![Cell::default(); survey.runs_on.len().div_ceil(blocks)];
-    for range in survey.doubtful() {
-        let (first, last) = blocks_of(range.start, range.end);
-        for cell in &mut cells[(first - 1) / blocks..=(last - 1) / blocks] {
-            cell.torn |= range.reason.is_none();
-            cell.doubt |= range.reason.is_some();
-        }
-    }
-    for (cell, group) in cells.iter_mut().zip(survey.runs_on.chunks(blocks)) {
-        cell.runs_on = group.last() == Some(&true);
-    }
-    cells
+    let groups = survey.marks.chunks(blocks);
+    let cell = |group: &[Mark]| Cell {
+        doubt: group.iter().any(|mark| mark.doubt),
+        torn: group.iter().any(|mark| mark.torn),
+        runs_on: group.last().is_some_and(|mark| mark.runs_on),
+    };
+    groups.map(cell).collect()
 }
 
 impl Cell {

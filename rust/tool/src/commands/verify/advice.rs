@@ -45,7 +45,7 @@ pub fn for_one(finding: &Finding, screen: Screen) -> Page {
 
 /// Where no record can be read.
 fn unreadable(finding: &Finding) -> String {
-    let then = match finding.survey.torn() {
+    let then = match finding.survey.torn {
         Some(0) => "If it is one, its first record may have been written just when the power went.",
         _ => "If it is one, ask for another copy of it.",
     };
@@ -58,23 +58,23 @@ fn unreadable(finding: &Finding) -> String {
 
 /// What each kind of doubt means, where some records can be read.
 fn by_case(survey: &Survey) -> Vec<String> {
-    let reasons = || survey.doubtful().filter_map(|range| range.reason);
+    let over_limit = survey.reasons.contains(&Reason::OverLimit);
     let mut sentences = Vec::new();
-    if reasons().any(|reason| reason != Reason::OverLimit) {
+    if survey.reasons.len() > usize::from(over_limit) {
         sentences.push(format!(
             "Nothing of {} is handed out, and nobody can tell how many records were written there. One of them may have \
              been newer than a record before it, and have replaced it, as new factors or a new start list do. Do not \
              rely on what may have been replaced: ask for another copy of the journal, or ask whoever wrote it.",
-            if survey.gaps.len() > 1 { "the gaps" } else { "the gap" }
+            if survey.gaps.number() > 1 { "the gaps" } else { "the gap" }
         ));
     }
-    if reasons().any(|reason| reason == Reason::OverLimit) {
+    if over_limit {
         sentences.push(format!(
             "A record of more than {} bytes may be sound: this tool does not read it, but the program that wrote it may.",
             grouped(LONGEST_RECORD)
         ));
     }
-    if survey.torn().is_some() {
+    if survey.torn.is_some() {
         sentences.push(
             "Its end is torn: that may be the record that was being written when the power went. Damage in the last \
              block can look the same, so see whether the last record that can be read is the one you expect. To \
@@ -94,18 +94,19 @@ fn commands(finding: &Finding, page: &mut Page) {
         Source::StandardInput => "All that is in it, with the same input again:",
     });
     page.command(&typed("dump", word, ""));
-    let which = match &survey.gaps[..] {
-        [_] => "the gap",
+    let which = match survey.gaps.number() {
+        1 => "the gap",
         _ => "the first gap",
     };
-    let (before, after) = (survey.gaps[0].before, survey.gaps[0].after);
+    let first = &survey.gaps.kept[0];
+    let (before, after) = (first.before, first.after);
     let around = match (before, after) {
         (Some(_), Some(_)) => format!("The records before and after {which}:"),
         (Some(_), None) => "The last record that can be read:".into(),
         (None, _) => format!("The record after {which}:"),
     };
     cats(word, &around, &[before, after], page);
-    if survey.gaps.len() > 1 && survey.torn().is_some() {
+    if survey.gaps.number() > 1 && survey.torn.is_some() {
         cats(
             word,
             "The last record that can be read:",
@@ -113,7 +114,7 @@ fn commands(finding: &Finding, page: &mut Page) {
             page,
         );
     }
-    if let (Some(_), Some(_), Source::File(path)) = (survey.torn(), survey.last, finding.source) {
+    if let (Some(_), Some(_), Source::File(path)) = (survey.torn, survey.last, finding.source) {
         page.prose("A new journal, with the record that you type next:");
         page.command(&begin_another(path));
     }

@@ -1,59 +1,53 @@
 //! The gaps of a journal, each with its ranges.
 
+use super::rows::Rows;
 use super::Finding;
 use crate::gap::{Doubt, Gap};
-use crate::page::Page;
 use crate::shell::typed;
+use crate::trouble::Trouble;
 use crate::words::{blocks, blocks_of, bytes, count, from_to, grouped};
 use mellansko::{Reason, LONGEST_RECORD};
 
 /// As many gaps, and as many ranges of one, as are listed unless all are asked for.
-const MOST: usize = 20;
+pub const MOST: usize = 20;
 
-pub fn gaps(finding: &Finding, all: bool, page: &mut Page) {
+/// Those that were kept, and how many there are besides.
+pub fn gaps(finding: &Finding, rows: &mut Rows) -> Result<(), Trouble> {
     let gaps = &finding.survey.gaps;
-    let listed = if all {
-        gaps.len()
-    } else {
-        gaps.len().min(MOST)
-    };
-    let mut hidden = listed < gaps.len();
-    for gap in &gaps[..listed] {
-        hidden |= list(gap, all, page);
+    gaps.kept.iter().try_for_each(|gap| list(gap, rows))?;
+    if gaps.more > 0 {
+        let more = count(gaps.more, "more gap", "more gaps");
+        let doubt = bytes(gaps.bytes_in_more);
+        rows.entry(&format!("And {more}, with {doubt} in doubt."))?;
     }
-    if listed < gaps.len() {
-        let rest = &gaps[listed..];
-        let doubt = rest.iter().map(Gap::bytes).sum();
-        let more = count(rest.len(), "more gap", "more gaps");
-        page.entry(&format!("And {more}, with {} in doubt.", bytes(doubt)));
+    if gaps.are_hidden() {
+        rows.entry("To see all of them:")?;
+        let all = typed("verify --all", finding.source.word(), "");
+        rows.write(|page| page.command(&all))?;
     }
-    if hidden {
-        page.entry("To see all of them:");
-        page.command(&typed("verify --all", finding.source.word(), ""));
+    Ok(())
+}
+
+fn list(gap: &Gap, rows: &mut Rows) -> Result<(), Trouble> {
+    rows.entry(&gap.heading())?;
+    for range in &gap.ranges {
+        rows.point(&entry(range))?;
+    }
+    match gap.hidden() {
+        0 => Ok(()),
+        hidden => {
+            let more = count(hidden, "more range", "more ranges");
+            rows.point(&format!("and {more} in this gap"))
+        }
     }
 }
 
-/// Lists a gap, and says whether some of its ranges were left out.
-fn list(gap: &Gap, all: bool, page: &mut Page) -> bool {
-    page.entry(&gap.heading());
-    let most = if all { usize::MAX } else { MOST };
-    for range in gap.ranges.iter().take(most) {
-        page.point(&entry(range));
-    }
-    let left_out = gap.ranges.len().saturating_sub(most);
-    if left_out > 0 {
-        let more = count(left_out, "more range", "more ranges");
-        page.point(&format!("and {more} in this gap"));
-    }
-    left_out > 0
-}
-
-fn entry(range: &Doubt) -> String {
+pub fn entry(range: &Doubt) -> String {
     let (first, last) = blocks_of(range.start, range.end);
     format!(
         "{} ({}, {}): {}",
         from_to(range.start, range.end),
-        bytes(range.end - range.start),
+        bytes(range.bytes()),
         blocks(first, last),
         match range.reason {
             Some(reason) => in_words(reason),
