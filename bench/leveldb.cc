@@ -45,7 +45,7 @@ void read(Slice log, size_t length, size_t count) {
 
 std::string bytes(size_t length) {
     std::string bytes(length, 0);
-    // As rust/bench/src/logs.rs has them.
+    // As rust/bench/src/sample.rs has them.
     for (size_t i = 0; i < length; i++) bytes[i] = static_cast<char>(i * 7 + i / 251);
     return bytes;
 }

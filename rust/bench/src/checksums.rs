@@ -1,6 +1,7 @@
 //! The proved checksum beside an ordinary one.
 
 use crate::byte_table;
+use crate::sample;
 use crate::turns::{best, rate, timed, Way};
 use std::hint::black_box;
 
@@ -11,7 +12,7 @@ pub fn print() {
         "bytes", "proved MB/s", "plain MB/s", "ratio"
     );
     for size in [100, 1 << 10, 32 << 10, 1 << 20] {
-        let bytes: Vec<u8> = (0..size).map(|i| (i * 7 + i / 251) as u8).collect();
+        let bytes = sample::bytes(size);
         let (proved, plain) = rates(&bytes);
         println!(
             "{size:>10} {proved:>12.1} {plain:>12.1} {:>6.2}",

@@ -7,10 +7,13 @@ use crate::turns::{best, rate, timed, Way};
 use reference::log::{Appended, Next, LONGEST_RECORD};
 use std::hint::black_box;
 
-/// How long the logs are.
-const LOG: usize = 15 << 20;
+/// How long the records are.
+pub const LENGTHS: [usize; 4] = [100, 1 << 10, 8 << 10, 100 << 10];
 
-const ROUNDS: usize = 11;
+/// How long the logs are.
+pub const LOG: usize = 15 << 20;
+
+pub const ROUNDS: usize = 11;
 
 /// The new mark, if the append was accepted.
 type Append = fn(log: &mut [u8], mark: usize, record: &[u8]) -> Option<usize>;
@@ -28,7 +31,7 @@ pub fn print(mut leveldb: Option<&mut Leveldb>) {
         print!(" {other:>10} {:>6}", "ratio");
     }
     println!();
-    for length in [100, 1 << 10, 8 << 10, 100 << 10] {
+    for length in LENGTHS {
         let sample = Sample::new(length, LOG);
         sample.compare(leveldb.as_deref_mut());
         sample.print_line("write", sample.writing(), leveldb.as_deref_mut());

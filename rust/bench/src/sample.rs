@@ -8,7 +8,7 @@ pub struct Sample {
 
 impl Sample {
     pub fn new(length: usize, log_length: usize) -> Sample {
-        let record: Vec<u8> = (0..length).map(|i| (i * 7 + i / 251) as u8).collect();
+        let record = bytes(length);
         let mut log = vec![0; log_length];
         let (mut count, mut used) = (0, 0);
         while let Ok(mark) = mellansko::append(&mut log, used, &record) {
@@ -18,4 +18,9 @@ impl Sample {
         log.truncate(used);
         Sample { record, count, log }
     }
+}
+
+/// So many bytes, as bench/leveldb.cc has them too.
+pub fn bytes(length: usize) -> Vec<u8> {
+    (0..length).map(|i| (i * 7 + i / 251) as u8).collect()
 }

@@ -88,7 +88,7 @@ fn c_next(sample: &Sample) -> Way<'_> {
     }))
 }
 
-fn next(sample: &Sample) -> Way<'_> {
+pub fn next(sample: &Sample) -> Way<'_> {
     let mut buffer = vec![0; LONGEST_RECORD];
     Box::new(timed(move || {
         let log = &black_box(sample).log[..];
