@@ -8,6 +8,7 @@ mod damage;
 mod fragments;
 mod lent;
 mod make;
+mod odd;
 mod refusals;
 mod sizes;
 mod words;

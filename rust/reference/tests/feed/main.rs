@@ -13,5 +13,7 @@ mod refusals;
 mod sums;
 mod words;
 
+#[path = "../../../mellansko/tests/compare/odd.rs"]
+mod odd;
 #[path = "../../../mellansko/tests/random/mod.rs"]
 mod random;

@@ -1,7 +1,8 @@
 //! Logs of fragments as no writer puts them: any type after any other, most of them sound.
 
+use crate::odd::{kind_after, spoilt};
 use crate::random::Random;
-use reference::log::{append, fragment, Appended, BLOCK, FIRST, FULL, HEADER, LAST, MIDDLE};
+use reference::log::{append, fragment, Appended, BLOCK, FIRST, FULL, HEADER};
 
 pub fn pick<T: Clone>(random: &mut Random, from: &[T]) -> T {
     from[random.below(from.len())].clone()
@@ -41,41 +42,9 @@ pub fn add(random: &mut Random, log: &mut Vec<u8>, length: usize, most: usize) {
             _ => random.below(most.min(room) + 1),
         };
         let sound = fragment(kind, &random.bytes(bytes));
-        log.extend(spoilt(random, sound, room));
+        log.extend(spoilt(random, sound, room, 20));
     }
     log.truncate(length);
-}
-
-/// Mostly a type that a writer would go on with, so that records get long; else any.
-fn kind_after(random: &mut Random, last: u8) -> u8 {
-    let kinds: &[u8] = match (random.below(8), last) {
-        (0, _) => &[0, 5, 6, 128, 255],
-        (1 | 2, _) => &[FULL, FIRST, MIDDLE, LAST],
-        (_, FIRST | MIDDLE) => &[MIDDLE, MIDDLE, LAST],
-        _ => &[FULL, FIRST, FIRST],
-    };
-    pick(random, kinds)
-}
-
-/// Mostly the fragment as it is.
-fn spoilt(random: &mut Random, mut fragment: Vec<u8>, room: usize) -> Vec<u8> {
-    match random.below(20) {
-        // A wrong checksum, somewhere.
-        0 => {
-            let place = random.below(fragment.len());
-            fragment[place] ^= 1 << random.below(8);
-        }
-        // A length that is too long, by a little or by much.
-        1 => {
-            let scale = 1 << random.below(16);
-            let long = (room + 1 + random.below(scale)).min(0xFFFF) as u16;
-            fragment[4..6].copy_from_slice(&long.to_le_bytes());
-        }
-        // Blank, with any checksum.
-        2 => fragment[4..HEADER].fill(0),
-        _ => {}
-    }
-    fragment
 }
 
 /// A log of records as the writer puts them, the lengths given.
