@@ -5,7 +5,7 @@ mod interop;
 mod random;
 
 use interop::leveldb;
-use mellansko::{append, Answer, Reading, Tail, BLOCK, LONGEST_RECORD};
+use mellansko::{append, Answer, Feed, Reading, Tail, BLOCK, LONGEST_RECORD};
 use random::Random;
 use reference::log::HEADER;
 use reference::samples;
@@ -14,6 +14,9 @@ const CLEAN: &[u8] = include_bytes!("../../../samples/clean.log");
 const DAMAGED: &[u8] = include_bytes!("../../../samples/damaged.log");
 const LEVELDB: &[u8] = include_bytes!("../../../samples/leveldb.log");
 
+/// Lengths of pieces: inside a header, across blocks' ends, a block, and more than one.
+const PIECES: [usize; 4] = [1, 1_000, BLOCK, 3 * BLOCK + 1];
+
 #[test]
 fn what_leveldb_writes_reads_back_and_is_what_is_written_here() {
     let Some(leveldb) = leveldb() else { return };
@@ -21,6 +24,18 @@ fn what_leveldb_writes_reads_back_and_is_what_is_written_here() {
         let log = leveldb.write(&list.records);
         assert!(read(&log) == list.records, "read, {}", list.name);
         assert!(written(&list.records) == log, "written, {}", list.name);
+    }
+}
+
+#[test]
+fn what_leveldb_writes_reads_back_fed_in_pieces() {
+    let Some(leveldb) = leveldb() else { return };
+    for list in lists() {
+        let log = leveldb.write(&list.records);
+        for length in PIECES {
+            let records = fed(&log, length);
+            assert!(records == list.records, "pieces of {length}, {}", list.name);
+        }
     }
 }
 
@@ -55,6 +70,9 @@ fn the_sample_that_leveldb_wrote() {
     for (record, put) in records.iter().zip(&puts) {
         assert!(record.ends_with(put.as_bytes()), "{put}");
     }
+    for length in PIECES {
+        assert!(fed(LEVELDB, length) == records, "pieces of {length}");
+    }
     agree(LEVELDB, &records);
 }
 
@@ -76,7 +94,21 @@ fn agree(log: &[u8], records: &[Vec<u8>]) {
 
 /// The records of a log in which nothing is in doubt and whose end is clean.
 fn read(log: &[u8]) -> Vec<Vec<u8>> {
-    let mut answers: Vec<Answer> = Reading::of(log).expect("no refusal").collect();
+    records_of(Reading::of(log).expect("no refusal").collect())
+}
+
+/// The same by the reader that is fed, in pieces of this length.
+fn fed(log: &[u8], length: usize) -> Vec<Vec<u8>> {
+    let (mut feed, mut answers) = (Feed::new(), Vec::new());
+    for piece in log.chunks(length) {
+        answers.extend(feed.push(piece).expect("no refusal"));
+    }
+    feed.end();
+    answers.extend(feed.certain());
+    records_of(answers)
+}
+
+fn records_of(mut answers: Vec<Answer>) -> Vec<Vec<u8>> {
     assert_eq!(answers.pop(), Some(Answer::End(Tail::Clean)));
     let record = |answer| match answer {
         Answer::Record { bytes, .. } => bytes.into_owned(),
