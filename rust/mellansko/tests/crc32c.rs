@@ -43,6 +43,33 @@ fn on_every_length_from_0_to_300() {
     }
 }
 
+/// A checksum that goes by a table of 256 numbers needs each of them here.
+#[test]
+fn on_all_messages_of_up_to_2_bytes() {
+    compare(&[], "no bytes");
+    for first in 0..=255 {
+        compare(&[first], &format!("{first:#04x}"));
+        for second in 0..=255 {
+            compare(&[first, second], &format!("{first:#04x} and {second:#04x}"));
+        }
+    }
+}
+
+/// A loop may treat the bytes at either end apart from the rest, and may take several at a time.
+#[test]
+fn on_each_byte_at_the_first_a_middle_and_the_last_place() {
+    let mut random = Random::new();
+    for length in [3, 4, 7, 8, 32, 33] {
+        for place in [0, length / 2, length - 1] {
+            let mut bytes = random.bytes(length);
+            for byte in 0..=255 {
+                bytes[place] = byte;
+                compare(&bytes, &format!("{bytes:02x?}, {random}"));
+            }
+        }
+    }
+}
+
 #[test]
 fn on_random_inputs_up_to_1_mib() {
     let mut random = Random::new();

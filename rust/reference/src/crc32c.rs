@@ -34,16 +34,18 @@ fn times_x32(message: &[u8]) -> impl Iterator<Item = bool> + '_ {
 /// The same checksum a byte at a time, for the many bytes of logs. Its table is made by the
 /// division above.
 pub fn crc32c_by_bytes(message: &[u8]) -> u32 {
-    let table: &[u32; 256] = &TABLE;
+    let table: &[u32; 256] = &CRC32C_TABLE;
     let register = message.iter().fold(u32::MAX, |register, byte| {
         table[usize::from(register as u8 ^ byte)] ^ (register >> 8)
     });
     !register
 }
 
+/// The 256 numbers of docs/FORMAT.md, §2.7.
+///
 /// The register starts as 32 ones. So the one byte of a message finds the entry at its complement,
 /// and that entry, with the 24 ones that are left of the start, is the complement of the CRC.
-static TABLE: LazyLock<[u32; 256]> =
+pub static CRC32C_TABLE: LazyLock<[u32; 256]> =
     LazyLock::new(|| array::from_fn(|entry| !crc32c(&[!(entry as u8)]) ^ 0x00FF_FFFF));
 
 /// The form in which LevelDB stores a CRC: rotated right by 15 bits, plus 0xA282EAD8.

@@ -9,4 +9,4 @@ pub mod runs;
 pub mod samples;
 pub mod vectors;
 
-pub use crc32c::{crc32c, crc32c_by_bytes, mask};
+pub use crc32c::{crc32c, crc32c_by_bytes, mask, CRC32C_TABLE};

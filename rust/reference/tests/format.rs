@@ -3,7 +3,7 @@
 
 use reference::feed::{self, Told};
 use reference::log::{append, next, Appended, Next, Stored, Tail, BLOCK};
-use reference::{crc32c, mask};
+use reference::{crc32c, mask, CRC32C_TABLE};
 
 const PAGE: &str = include_str!("../../../docs/FORMAT.md");
 
@@ -98,6 +98,10 @@ fn checksums() {
             mask(1)
         ),
     );
+    // The one bit of 128 leaves with the last shift, so only what is xor-ed then is left.
+    let xored = format!("0x{:08X}", CRC32C_TABLE[128]);
+    says(&text, &format!("by one and xor-ed with {xored}, otherwise"));
+    says(&text, &format!("number 128 is {xored}."));
 }
 
 const RECORDS: [&[u8]; 2] = [b"LW10-1 0.9137", b"LW11 0.8412"];
