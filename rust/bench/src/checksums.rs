@@ -6,7 +6,7 @@ use crate::turns::{best, rate, timed, Way};
 use std::hint::black_box;
 
 pub fn print() {
-    println!("checksum: proved (a table of 16) against an ordinary Rust program (a table of 256)");
+    println!("checksum: proved against an ordinary Rust program, each with a table of 256");
     println!(
         "{:>10} {:>12} {:>12} {:>6}",
         "bytes", "proved MB/s", "plain MB/s", "ratio"

@@ -1,7 +1,7 @@
-//! The proved writer and reader beside the reference, a loop over the proved checksum alone, and
-//! LevelDB's own writer and reader.
+//! The proved writer and reader beside the reference, a loop over the proved checksum alone, and the
+//! other programs that there are: LevelDB's own writer and reader, and the proved ones as they were.
 
-use crate::leveldb::Leveldb;
+use crate::other::Other;
 use crate::sample::Sample;
 use crate::turns::{best, rate, timed, Way};
 use reference::log::{Appended, Next, LONGEST_RECORD};
@@ -16,38 +16,38 @@ pub const LOG: usize = 15 << 20;
 pub const ROUNDS: usize = 11;
 
 /// The new mark, if the append was accepted.
-type Append = fn(log: &mut [u8], mark: usize, record: &[u8]) -> Option<usize>;
+pub type Append = fn(log: &mut [u8], mark: usize, record: &[u8]) -> Option<usize>;
 
 /// The place to go on from, if the answer was a record.
-type Read = fn(log: &[u8], place: usize, buffer: &mut [u8]) -> Option<usize>;
+pub type Read = fn(log: &[u8], place: usize, buffer: &mut [u8]) -> Option<usize>;
 
-pub fn print(mut leveldb: Option<&mut Leveldb>) {
+pub fn print(others: &mut [Other]) {
     println!(
         "\nlogs of 15 MiB: MB/s of records, and the ratio of the proved calls to each other way"
     );
-    let leveldb_too: &[&str] = if leveldb.is_some() { &["LevelDB"] } else { &[] };
     print!("{:>5} {:>7} {:>8}", "", "bytes", "proved");
-    for other in ["reference", "checksum"].iter().chain(leveldb_too) {
-        print!(" {other:>10} {:>6}", "ratio");
+    let names = others.iter().map(|other| other.name);
+    for name in ["reference", "checksum"].into_iter().chain(names) {
+        print!(" {name:>10} {:>6}", "ratio");
     }
     println!();
     for length in LENGTHS {
         let sample = Sample::new(length, LOG);
-        sample.compare(leveldb.as_deref_mut());
-        sample.print_line("write", sample.writing(), leveldb.as_deref_mut());
-        sample.print_line("read", sample.reading(), leveldb.as_deref_mut());
+        sample.compare(others);
+        sample.print_line("write", sample.writing(), others);
+        sample.print_line("read", sample.reading(), others);
     }
 }
 
 impl Sample {
     /// All must do the same work: the other ways write the same log.
-    fn compare(&self, leveldb: Option<&mut Leveldb>) {
+    fn compare(&self, others: &mut [Other]) {
         let mut log = vec![0; self.log.len()];
         self.write(&mut log, reference_append);
         assert!(log == self.log, "the reference writes another log");
-        if let Some(leveldb) = leveldb {
-            let log = leveldb.log(self.record.len(), self.count);
-            assert!(log == self.log, "LevelDB writes another log");
+        for other in others {
+            let log = other.log(self.record.len(), self.count);
+            assert!(log == self.log, "{} writes another log", other.name);
         }
     }
 
@@ -76,14 +76,14 @@ impl Sample {
         }))
     }
 
-    fn write(&self, log: &mut [u8], append: Append) {
+    pub fn write(&self, log: &mut [u8], append: Append) {
         let mut mark = 0;
         for _ in 0..self.count {
             mark = append(log, mark, black_box(&self.record)).expect("room for the record");
         }
     }
 
-    fn read(&self, buffer: &mut [u8], next: Read) {
+    pub fn read(&self, buffer: &mut [u8], next: Read) {
         let (mut count, mut place) = (0, 0);
         while let Some(end) = next(black_box(&self.log), place, buffer) {
             count += 1;
@@ -92,16 +92,11 @@ impl Sample {
         assert_eq!((count, place), (self.count, self.log.len()));
     }
 
-    /// The times of the ways and, where it is there, of LevelDB, as one line.
-    fn print_line<'a>(
-        &self,
-        what: &'a str,
-        mut ways: Vec<Way<'a>>,
-        leveldb: Option<&'a mut Leveldb>,
-    ) {
+    /// The times of the ways and of the other programs, as one line.
+    fn print_line<'a>(&self, what: &'a str, mut ways: Vec<Way<'a>>, others: &'a mut [Other]) {
         let (length, count) = (self.record.len(), self.count);
-        if let Some(leveldb) = leveldb {
-            ways.push(Box::new(move || leveldb.time(what, length, count)));
+        for other in others {
+            ways.push(Box::new(move || other.time(what, length, count)));
         }
         let times = best(ROUNDS, &mut ways);
         let mut rates = times.into_iter().map(|time| rate(length * count, time));
@@ -114,7 +109,7 @@ impl Sample {
     }
 }
 
-fn proved_append(log: &mut [u8], mark: usize, record: &[u8]) -> Option<usize> {
+pub fn proved_append(log: &mut [u8], mark: usize, record: &[u8]) -> Option<usize> {
     mellansko::append(log, mark, record).ok()
 }
 
@@ -125,7 +120,7 @@ fn reference_append(log: &mut [u8], mark: usize, record: &[u8]) -> Option<usize>
     }
 }
 
-fn proved_next(log: &[u8], place: usize, buffer: &mut [u8]) -> Option<usize> {
+pub fn proved_next(log: &[u8], place: usize, buffer: &mut [u8]) -> Option<usize> {
     match mellansko::next(log, place, LONGEST_RECORD, buffer) {
         Ok((mellansko::Next::Record(_), end)) => Some(end),
         _ => None,

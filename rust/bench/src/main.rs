@@ -1,21 +1,22 @@
 //! Rates of the proved calls, each beside other programs that are run in turn with it. Only the
 //! ratios and the differences mean something on another machine.
 
+mod answers;
 mod byte_table;
 mod checksums;
 mod damaged;
 mod fed;
-mod leveldb;
 mod logs;
+mod other;
 mod sample;
 mod turns;
 mod types;
 
-use leveldb::Leveldb;
+use other::Other;
 use std::env::args;
 
-/// A part's name, and what prints it, with LevelDB's figures where it has some.
-type Part = (&'static str, fn(Option<&mut Leveldb>));
+/// A part's name, and what prints it, with the figures of the other programs where it has some.
+type Part = (&'static str, fn(&mut [Other]));
 
 /// In the order in which they are printed.
 const PARTS: [Part; 5] = [
@@ -26,15 +27,22 @@ const PARTS: [Part; 5] = [
     ("damaged", |_| damaged::print()),
 ];
 
-/// The arguments: `--leveldb` and the program made of bench/leveldb.cc, if there is one, and then
-/// the names of the parts to print, or none for all.
+/// The arguments: `--leveldb` and the program made of bench/leveldb.cc, `--before` and this program
+/// with another archive, where there are such, and then the names of the parts to print, or none
+/// for all. With `--answer` this is such a program itself, which is asked by another one.
 fn main() {
     let mut arguments = args().skip(1).peekable();
-    let option = arguments.next_if(|first| first == "--leveldb");
-    let mut leveldb = option.map(|_| {
-        let path = arguments.next().expect("a program after --leveldb");
-        Leveldb::start(&path)
-    });
+    if arguments.next_if_eq("--answer").is_some() {
+        return answers::give();
+    }
+    let mut others = Vec::new();
+    for (option, name, given) in OTHERS {
+        if arguments.next_if_eq(option).is_some() {
+            let path = arguments.next();
+            let path = path.unwrap_or_else(|| panic!("a program has to follow {option}"));
+            others.push(Other::start(name, &path, given));
+        }
+    }
     let wanted: Vec<String> = arguments.collect();
     let names = PARTS.map(|(name, _)| name);
     for name in &wanted {
@@ -43,7 +51,13 @@ fn main() {
     }
     for (name, print) in PARTS {
         if wanted.is_empty() || wanted.iter().any(|wanted| wanted == name) {
-            print(leveldb.as_mut());
+            print(&mut others);
         }
     }
 }
+
+/// The options that name another program, in their order, its name, and what it is given.
+const OTHERS: [(&str, &str, &[&str]); 2] = [
+    ("--leveldb", "LevelDB", &[]),
+    ("--before", "before", &["--answer"]),
+];

@@ -1,27 +1,34 @@
-//! LevelDB's own log writer and reader, in a program of their own (bench/leveldb.cc) that does one
-//! thing at a time when it is asked to, so that it can take turns.
+//! Another program that does one thing at a time when it is asked to, so that it can take turns:
+//! LevelDB's own log writer and reader (bench/leveldb.cc), or this program with another archive
+//! (answers.rs).
 
 use std::io::{BufRead, BufReader, Read, Write};
 use std::process::{Child, ChildStdout, Command, Stdio};
 use std::time::Duration;
 
-pub struct Leveldb {
+pub struct Other {
+    pub name: &'static str,
     program: Child,
     output: BufReader<ChildStdout>,
 }
 
-impl Leveldb {
-    pub fn start(path: &str) -> Leveldb {
+impl Other {
+    pub fn start(name: &'static str, path: &str, arguments: &[&str]) -> Other {
         let program = Command::new(path)
+            .args(arguments)
             .stdin(Stdio::piped())
             .stdout(Stdio::piped())
             .spawn();
         let mut program = program.unwrap_or_else(|error| panic!("{path} did not start: {error}"));
         let output = BufReader::new(program.stdout.take().expect("a pipe"));
-        Leveldb { program, output }
+        Other {
+            name,
+            program,
+            output,
+        }
     }
 
-    /// How long it takes to write so many records, or to read those written last.
+    /// How long it takes to write so many records, or to read the log of them.
     pub fn time(&mut self, command: &str, length: usize, count: usize) -> Duration {
         Duration::from_nanos(self.number(command, length, count))
     }
@@ -43,7 +50,7 @@ impl Leveldb {
 }
 
 /// The program ends when its input does, which waiting closes.
-impl Drop for Leveldb {
+impl Drop for Other {
     fn drop(&mut self) {
         self.program.wait().expect("its end");
     }
