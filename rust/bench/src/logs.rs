@@ -16,10 +16,10 @@ pub const LOG: usize = 15 << 20;
 pub const ROUNDS: usize = 11;
 
 /// The new mark, if the append was accepted.
-pub type Append = fn(log: &mut [u8], mark: usize, record: &[u8]) -> Option<usize>;
+type Append = fn(log: &mut [u8], mark: usize, record: &[u8]) -> Option<usize>;
 
 /// The place to go on from, if the answer was a record.
-pub type Read = fn(log: &[u8], place: usize, buffer: &mut [u8]) -> Option<usize>;
+type Read = fn(log: &[u8], place: usize, buffer: &mut [u8]) -> Option<usize>;
 
 pub fn print(others: &mut [Other]) {
     println!(
