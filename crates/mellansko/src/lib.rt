@@ -1,6 +1,7 @@
 // The calls for C and Rust. Each only hands on to the call of the crate that does the work, and says its answer in
 // numbers: docs/FORMAT.md, §10.1.
 mod feed;
+mod mend;
 
 ghost use mathlib.Core.Path.{_≡_};
 ghost use lib.ListN.{length};
