@@ -5,6 +5,7 @@
 mod crc32c;
 pub mod feed;
 pub mod log;
+pub mod mend;
 pub mod runs;
 pub mod samples;
 pub mod vectors;

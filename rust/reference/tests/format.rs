@@ -3,6 +3,7 @@
 
 use reference::feed::{self, Told};
 use reference::log::{append, next, Appended, Next, Stored, Tail, BLOCK};
+use reference::mend::{mend, Mended};
 use reference::{crc32c, mask, CRC32C_TABLE};
 
 const PAGE: &str = include_str!("../../../docs/FORMAT.md");
@@ -169,11 +170,15 @@ fn ten_words() {
     );
 }
 
+/// The log of the picture of §1, and the bytes that each append adds.
+fn picture() -> (Vec<u8>, Vec<usize>) {
+    let records = [1_000, 97_270, 8_000].map(|length| vec![7; length]);
+    written(&records.each_ref().map(Vec::as_slice))
+}
+
 #[test]
 fn the_picture() {
-    let lengths = [1_000, 97_270, 8_000];
-    let records = lengths.map(|length| vec![7; length]);
-    let (mut log, added) = written(&records.each_ref().map(Vec::as_slice));
+    let (mut log, added) = picture();
     let text = part("§9.2", "**§9.3**");
     let [a, b, c] = [0, 1, 2].map(|i| grouped(added[i]));
     says(
@@ -286,8 +291,7 @@ fn small_logs() {
 fn fed_in_pieces() {
     let text = part("§11.13", "**§11.14**");
     says(&text, "at limit 24,576");
-    let records = [1_000, 97_270, 8_000].map(|length| vec![7; length]);
-    let (log, _) = written(&records.each_ref().map(Vec::as_slice));
+    let (log, _) = picture();
     let rows = rows("§11.13");
     for length in [1, 1_007, 5_000, 32_768, 200_000] {
         let told = fed(&log, 24_576, length);
@@ -348,4 +352,66 @@ fn fed_line(answer: Next) -> String {
         Next::End(Tail::Clean) => "end, clean".to_string(),
         other => panic!("{other:?}"),
     }
+}
+
+/// The mended log, and what is answered, as the page tells it.
+fn mended(bad: &[u8], fresh: usize, limit: usize) -> (Vec<u8>, String) {
+    let (mut fresh, mut buffer) = (vec![0; fresh], vec![0; limit]);
+    match mend(bad, &mut fresh, limit, &mut buffer) {
+        Mended::Log { length, skipped } => {
+            fresh.truncate(length);
+            let [length, skipped] = [length, skipped].map(grouped);
+            (fresh, format!("length {length}, skipped {skipped}"))
+        }
+        Mended::Refused { number, .. } => (Vec::new(), format!("refused with number {number}")),
+    }
+}
+
+#[test]
+fn the_picture_mended() {
+    let text = part("§12.9", "**§12.10**");
+    let (whole, _) = picture();
+    let mut bad = whole.clone();
+    bad[40_000] ^= 1;
+    let (log, answer) = mended(&bad, bad.len(), 262_144);
+    says(
+        &text,
+        &format!("the byte at 40,000 changed, at limit 262,144: {answer}; the mended log is"),
+    );
+    let answers = fed(&log, 262_144, 200_000);
+    let records = answers.iter().filter_map(|(line, _)| {
+        let line = line.strip_prefix("record ")?;
+        line.split_once(", ")
+    });
+    let [(one, length), (two, bytes)] = records.collect::<Vec<_>>()[..] else {
+        panic!("{answers:?}");
+    };
+    let length = length.trim_end_matches(" bytes");
+    says(
+        &text,
+        &format!("the records of {length} and {bytes}, from {one} and from {two}."),
+    );
+    let (log, answer) = mended(&whole, whole.len(), 262_144);
+    assert!(log == whole);
+    says(&text, &format!("The same log unchanged: {answer}."));
+    let (log, answer) = mended(&whole[..106_310], 106_310, 262_144);
+    assert!(log == whole[..98_298]);
+    says(&text, &format!("Cut to 106,310 bytes: {answer}."));
+}
+
+#[test]
+fn two_records_mended() {
+    let text = part("§12.9", "**§12.10**");
+    let (bad, _) = written(&RECORDS);
+    let (log, answer) = mended(&bad, bad.len(), 12);
+    assert_eq!(log, bad[20..38]);
+    let (_, refused) = mended(&bad, 17, 12);
+    let low = "The log of §9.1 at limit 12";
+    let is = "the mended log is its bytes from 20 to 38";
+    says(
+        &text,
+        &format!(
+            "{low}: {answer}, and {is}; but into a fresh slice of 17 bytes this is {refused}."
+        ),
+    );
 }

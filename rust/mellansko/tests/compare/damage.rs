@@ -1,8 +1,7 @@
-//! Logs as they were written, then damaged: by chance, and as if by someone who knows the format.
+//! Logs as they were written, then damaged.
 
+use super::hurt::hurt;
 use super::{make, Comparison};
-use crate::random::Random;
-use reference::log::{fragment, BLOCK, HEADER};
 
 pub fn all(c: &mut Comparison) {
     for _ in 0..1_000 {
@@ -14,77 +13,4 @@ pub fn all(c: &mut Comparison) {
         }
         c.examine(&log);
     }
-}
-
-/// One piece of damage.
-fn hurt(random: &mut Random, log: &mut Vec<u8>, other: &[u8]) {
-    let place = random.below(log.len());
-    match random.below(12) {
-        0 => log[place] ^= 1 << random.below(8),
-        1 => log[place] = random.next() as u8,
-        2 => {
-            let length = make::any_length(random, 12);
-            let bytes = random.bytes(length);
-            overwrite(log, place, &bytes);
-        }
-        3 => overwrite(log, place, &vec![0; make::any_length(random, 16)]),
-        4 => {
-            let bytes = random.bytes(BLOCK);
-            overwrite(log, place / BLOCK * BLOCK, &bytes);
-        }
-        5 => overwrite(log, place / BLOCK * BLOCK, &[0; BLOCK]),
-        6 => other_block(random, log, other),
-        7 => overwrite(log, place, other),
-        8 => log.truncate(place + 1),
-        _ => hurt_a_fragment(random, log),
-    }
-}
-
-/// A whole block of another log, from any of its blocks.
-fn other_block(random: &mut Random, log: &mut [u8], other: &[u8]) {
-    let blocks: Vec<&[u8]> = other.chunks(BLOCK).collect();
-    let block = make::pick(random, &blocks);
-    let place = random.below(log.len());
-    overwrite(log, place / BLOCK * BLOCK, block);
-}
-
-/// Damage to one fragment of a log that may be damaged already.
-fn hurt_a_fragment(random: &mut Random, log: &mut [u8]) {
-    let headers = make::headers(log);
-    if headers.is_empty() {
-        return;
-    }
-    let place = make::pick(random, &headers);
-    match random.below(6) {
-        // One bit of the header.
-        0 => log[place + random.below(HEADER)] ^= 1 << random.below(8),
-        // Another length or another type, the checksum as it was.
-        1 => log[place + 4] = random.next() as u8,
-        2 => log[place + 6] = random.below(7) as u8,
-        // Another type or length or both, and a checksum to match.
-        3 | 4 => forge(random, log, place),
-        // A copy of another fragment and what follows it.
-        _ => {
-            let from = make::pick(random, &headers);
-            let copy = log[from..].to_vec();
-            overwrite(log, place, &copy[..copy.len().min(BLOCK)]);
-        }
-    }
-}
-
-/// A fragment of any type and a length that may be the old one, around the data that stand there.
-fn forge(random: &mut Random, log: &mut [u8], place: usize) {
-    let room = (BLOCK - place % BLOCK).min(log.len() - place) - HEADER;
-    let old = usize::from(u16::from_le_bytes([log[place + 4], log[place + 5]]));
-    let any = random.below(room + 1);
-    let length = make::pick(random, &[old.min(room), any, room, 0]);
-    let kind = make::pick(random, &[0, 1, 2, 3, 4, 5, 129, 255]);
-    let data = log[place + HEADER..place + HEADER + length].to_vec();
-    overwrite(log, place, &fragment(kind, &data));
-}
-
-/// Puts bytes at a place, as many of them as the log has there.
-fn overwrite(log: &mut [u8], place: usize, bytes: &[u8]) {
-    let length = bytes.len().min(log.len() - place);
-    log[place..place + length].copy_from_slice(&bytes[..length]);
 }

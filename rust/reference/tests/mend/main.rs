@@ -1,0 +1,24 @@
+//! Mending (docs/FORMAT.md, §12): held to the reading of the bad log, to the refusals, and to all
+//! that is promised. The page's examples are in tests/format.rs.
+
+mod layouts;
+mod logs;
+mod promises;
+mod reading;
+mod refusals;
+mod small;
+mod words;
+mod written;
+
+#[path = "../../../mellansko/tests/compare/hurt.rs"]
+mod hurt;
+// A part of it.
+#[allow(dead_code)]
+#[path = "../../../mellansko/tests/compare/make.rs"]
+mod make;
+#[path = "../../../mellansko/tests/compare/mixed.rs"]
+mod mixed;
+#[path = "../../../mellansko/tests/compare/odd.rs"]
+mod odd;
+#[path = "../../../mellansko/tests/random/mod.rs"]
+mod random;
