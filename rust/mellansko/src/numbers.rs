@@ -9,6 +9,9 @@
 #![allow(unsafe_code)]
 
 pub mod feed;
+mod mend;
+
+pub use mend::mend;
 
 extern "C" {
     fn mellansko_crc32c(bytes: *const u8, bytes_len: usize) -> u32;

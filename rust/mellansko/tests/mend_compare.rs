@@ -1,0 +1,86 @@
+//! The proved mending against the independent one: what is returned, every word of the answer, and
+//! every byte that is lent.
+
+#[path = "mend_compare/both.rs"]
+mod both;
+#[path = "mend_compare/edges.rs"]
+mod edges;
+#[path = "mend_compare/exact.rs"]
+mod exact;
+#[path = "mend_compare/gathered.rs"]
+mod gathered;
+#[path = "compare/hurt.rs"]
+mod hurt;
+#[path = "mend_compare/lay.rs"]
+mod lay;
+#[path = "compare/lent.rs"]
+mod lent;
+#[path = "mend_compare/logs.rs"]
+mod logs;
+#[path = "mend_compare/longest.rs"]
+mod longest;
+// A part of it.
+#[allow(dead_code)]
+#[path = "compare/make.rs"]
+mod make;
+#[path = "compare/mixed.rs"]
+mod mixed;
+#[path = "compare/odd.rs"]
+mod odd;
+mod random;
+// A part of it.
+#[allow(dead_code)]
+#[path = "feed_compare/words.rs"]
+mod words;
+
+use both::Both;
+
+/// Compares on one kind of inputs, so many calls at least.
+fn compare(part: fn(&mut Both), at_least: usize) {
+    let mut both = Both::new();
+    // Shown where the test fails.
+    println!("{}", both.random);
+    part(&mut both);
+    println!("{} calls compared", both.made);
+    assert!(both.made >= at_least, "only {} calls compared", both.made);
+}
+
+#[test]
+fn on_journals_whole_and_cut() {
+    compare(logs::written, 500);
+}
+
+#[test]
+fn on_journals_damaged() {
+    compare(logs::damaged, 1_000);
+}
+
+#[test]
+fn on_random_bytes() {
+    compare(logs::random, 1_000);
+}
+
+#[test]
+fn on_fragments_as_no_writer_puts_them() {
+    compare(logs::odd, 10_000);
+}
+
+#[test]
+fn on_what_gathering_leaves_in_the_buffer() {
+    compare(gathered::all, 10_000);
+}
+
+#[test]
+fn on_slices_that_just_fit() {
+    compare(exact::all, 2_000);
+}
+
+#[test]
+fn on_every_condition() {
+    compare(edges::all, 300);
+}
+
+#[test]
+fn on_the_longest_logs() {
+    compare(longest::all, 9);
+}
