@@ -381,7 +381,7 @@ static inline const char *mellansko_refusal_text(uint64_t number)
     case MELLANSKO_OUTSIDE: /* and MELLANSKO_UNFIT: whoever calls knows which it is */
         return "the mark or place is beyond the log's end, or the feed's numbers do not fit";
     case MELLANSKO_RECORD_TOO_LONG: return "the record is longer than 262144 bytes";
-    case MELLANSKO_NO_ROOM: return "the log has no room for the record at the mark";
+    case MELLANSKO_NO_ROOM: return "the log has no room for what is to be written";
     case MELLANSKO_LIMIT_TOO_HIGH: return "the limit is above 262144 bytes";
     case MELLANSKO_BUFFER_TOO_SHORT: return "the buffer is shorter than the limit";
     case MELLANSKO_AFTER_END: return "the log's end was announced before the piece";

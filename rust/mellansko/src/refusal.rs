@@ -62,7 +62,8 @@ impl Condition {
 /// ```
 /// let refusal = mellansko::append(&mut [0; 10], 4, b"LW10-1").unwrap_err();
 /// assert_eq!(refusal.condition.number(), 4);
-/// assert_eq!(refusal.to_string(), "the log has no room for the record at mark 4");
+/// let words = "the log has no room for what is to be written from mark 4 on";
+/// assert_eq!(refusal.to_string(), words);
 /// ```
 impl fmt::Display for Refusal {
     fn fmt(&self, f: &mut fmt::Formatter) -> fmt::Result {
@@ -73,7 +74,10 @@ impl fmt::Display for Refusal {
             Condition::RecordTooLong => {
                 write!(f, "the record is longer than {LONGEST_RECORD} bytes")
             }
-            Condition::NoRoom => write!(f, "the log has no room for the record at mark {given}"),
+            Condition::NoRoom => {
+                let room = "the log has no room for what is to be written";
+                write!(f, "{room} from mark {given} on")
+            }
             Condition::LimitTooHigh => write!(f, "the limit is above {LONGEST_RECORD} bytes"),
             Condition::BufferTooShort => write!(f, "the buffer is shorter than the limit"),
             Condition::AfterEnd => write!(f, "the log's end was announced before the piece"),

@@ -30,5 +30,5 @@ fn refusal_text(number: u8) -> String {
     let text = Refusal { condition, given }.to_string();
     let outside = "the mark or place is beyond the log's end, or the feed's numbers do not fit";
     text.replace("mark or place 4711 is beyond the log's end", outside)
-        .replace("at mark 4711", "at the mark")
+        .replace(" from mark 4711 on", "")
 }

@@ -43,7 +43,10 @@ fn of_the_conditions() {
         (1, "the log is longer than 16777216 bytes"),
         (2, "mark or place 9 is beyond the log's end"),
         (3, "the record is longer than 262144 bytes"),
-        (4, "the log has no room for the record at mark 9"),
+        (
+            4,
+            "the log has no room for what is to be written from mark 9 on",
+        ),
         (5, "the limit is above 262144 bytes"),
         (6, "the buffer is shorter than the limit"),
         (20, "the log's end was announced before the piece"),
