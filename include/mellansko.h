@@ -11,6 +11,7 @@
  * the new mark. A place is where mellansko_next reads: 0, and then what the last answer says. It
  * skips a record of more bytes than the limit, and gathers one of several fragments in the buffer.
  * For a log that is still coming there are the calls of a reader that is fed in pieces.
+ * mellansko_mend writes the records that are left in a damaged log into another one.
  *
  * What is said here of answers and of lent bytes is proved for every input, and so is that each
  * call ends and does nothing undefined; docs/PROOF.md says what that rests on. The names of the
@@ -20,9 +21,9 @@
  * - No pointer is NULL, not even one with length 0. A pointer and a length are a slice that really
  *   has that many bytes. A slice and a block may start at any address, an answer and a feed where C
  *   may put one.
- * - What a call writes (an append's log, a reading's buffer, a feed and its block, the answer)
- *   overlaps nothing else that it is passed, and no other thread uses it until the call returns.
- *   Nothing writes what it reads.
+ * - What a call writes (an append's log, a reading's buffer, a feed and its block, a mending's
+ *   fresh log and buffer, the answer) overlaps nothing else that it is passed, and no other thread
+ *   uses it until the call returns. Nothing writes what it reads.
  *
  * The calls allocate nothing, share no state, and keep nothing of what they are passed. They take
  * time in proportion to the bytes that they look at. They are for Linux on x86-64.
@@ -33,8 +34,8 @@
  *
  * `rt staticlib mellansko` makes the archive to link with, target/staticlib/libmellansko.a, and
  * `./install PREFIX` installs it with this header. examples/journal.c is a program to start from,
- * examples/append_file.c and examples/read_file.c are for files, and examples/feed_stdin.c is for
- * what comes over a pipe.
+ * examples/append_file.c, examples/read_file.c and examples/mend_file.c are for files, and
+ * examples/feed_stdin.c is for what comes over a pipe.
  */
 #ifndef MELLANSKO_H
 #define MELLANSKO_H
@@ -101,15 +102,22 @@ enum mellansko_take_kind {
     MELLANSKO_TAKE_REFUSED = 1
 };
 
+/* An answer's kind, as mellansko_mend returns it. */
+enum mellansko_mend_kind {
+    MELLANSKO_MENDED = 0,
+    MELLANSKO_MEND_REFUSED = 1
+};
+
 /*
- * The words of an answer (10.1, 11.14): a call writes all ten. Those that its kind does not name
- * are 0.
+ * The words of an answer (10.1, 11.14, 12.10): a call writes all ten. Those that its kind does not
+ * name are 0.
  */
 #define MELLANSKO_ANSWER 10
 
 /* Each begins with word 0 of an answer. An end is exclusive. */
 struct mellansko_accepted { uint64_t kind, mark; };
 struct mellansko_taken { uint64_t kind, length; };
+struct mellansko_mended { uint64_t kind, length, skipped; };
 struct mellansko_record { uint64_t kind, start, end, length, stored, data, place; };
 struct mellansko_skip { uint64_t kind, start, end, reason, zero[2], place; };
 struct mellansko_end { uint64_t kind, tail, start, zero[3], place; };
@@ -121,6 +129,7 @@ MELLANSKO_UNNAMED struct mellansko_answer {
         struct { uint64_t kind, by_kind[5], place; };  /* by these names in any answer */
         struct mellansko_accepted accepted;            /* MELLANSKO_ACCEPTED */
         struct mellansko_taken taken;                  /* MELLANSKO_TAKEN */
+        struct mellansko_mended mended;                /* MELLANSKO_MENDED */
         struct mellansko_record record;                /* MELLANSKO_RECORD */
         struct mellansko_skip skip;                    /* MELLANSKO_SKIP */
         struct mellansko_end end;                      /* MELLANSKO_END */
@@ -135,27 +144,31 @@ typedef char mellansko_answer_has_the_words_of_the_calls[
     offsetof(struct mellansko_answer, place) == 48 &&
     offsetof(struct mellansko_answer, accepted.mark) == 8 &&
     offsetof(struct mellansko_answer, taken.length) == 8 &&
+    offsetof(struct mellansko_answer, mended.skipped) == 16 &&
     offsetof(struct mellansko_answer, record.place) == 48 &&
     offsetof(struct mellansko_answer, skip.place) == 48 &&
     offsetof(struct mellansko_answer, end.place) == 48 &&
     offsetof(struct mellansko_answer, refused.given) == 16 ? 1 : -1];
 
 /*
- * A refusal's number (5, 11.11): why the call did nothing. No lent byte but the answer's has
- * changed. If several conditions hold, it is the lowest number. There are no other refusals. Its
- * `given` is the mark or place that the call was given, and 0 from the calls with a feed.
+ * A refusal's number (5, 11.11, 12.5): why the call did nothing. No lent byte but the answer's has
+ * changed. If several conditions hold, it is the lowest number; but mellansko_mend judges
+ * MELLANSKO_NO_ROOM last. There are no other refusals. Its `given` is the mark or place that the
+ * call was given, and 0 from mellansko_mend and the calls with a feed.
  */
 enum mellansko_refusal {
     MELLANSKO_LOG_TOO_LONG = 1,     /* append, next: log_len is above MELLANSKO_LONGEST_LOG;
+                                       mend: bad_len or fresh_len is;
                                        feed_take: what has come and the piece together are */
     MELLANSKO_OUTSIDE = 2,          /* append, next: the mark or place is above log_len */
     MELLANSKO_UNFIT = 2,            /* feed_take, feed_next: the feed's numbers do not fit together;
                                        those that calls lead to do */
     MELLANSKO_RECORD_TOO_LONG = 3,  /* append: record_len is above MELLANSKO_LONGEST_RECORD */
-    MELLANSKO_NO_ROOM = 4,          /* append: the size added is above log_len - mark */
-    MELLANSKO_LIMIT_TOO_HIGH = 5,   /* next, feed_begin: the limit is above
+    MELLANSKO_NO_ROOM = 4,          /* append: the size added is above log_len - mark;
+                                       mend: all sizes added together are above fresh_len */
+    MELLANSKO_LIMIT_TOO_HIGH = 5,   /* next, mend, feed_begin: the limit is above
                                        MELLANSKO_LONGEST_RECORD */
-    MELLANSKO_BUFFER_TOO_SHORT = 6, /* next, feed_next: buffer_len is below the limit */
+    MELLANSKO_BUFFER_TOO_SHORT = 6, /* next, mend, feed_next: buffer_len is below the limit */
     MELLANSKO_AFTER_END = 20        /* feed_take: the end is announced */
 };
 
@@ -202,7 +215,8 @@ enum mellansko_tail {
  *
  * A log that was read, from a file say, may be appended to at its length if all of it reads with no
  * skip and a clean end. If not, begin another log: a record after what is in doubt may be skipped
- * with it, and one at the start of a torn tail writes over what the tail holds.
+ * with it, and one at the start of a torn tail writes over what the tail holds. mellansko_mend
+ * begins one with the records that are left.
  *
  * The number of bytes added can be worked out (3.7). Let r = 32,768 - mark % 32,768, what is left
  * of the block. If r < 7 there is a trailer first, of p = r zeros, and room for a = 32,761 bytes of
@@ -345,6 +359,39 @@ void mellansko_feed_end(struct mellansko_feed *feed);
 MELLANSKO_KEEP MELLANSKO_NOT_NULL
 uint64_t mellansko_feed_next(struct mellansko_feed *feed, const uint8_t block[MELLANSKO_BLOCK],
                              uint8_t *buffer, size_t buffer_len, struct mellansko_answer *answer);
+
+/* ---- mending */
+
+/*
+ * Writes the records of a log (bad, bad_len), which need not be damaged, into another (fresh,
+ * fresh_len: all that is lent) from mark 0 on: those that mellansko_next hands out from place 0 to
+ * the end, at the limit and with the buffer (buffer, buffer_len) that are given here, in order.
+ * Returns the answer's kind:
+ *
+ *   MELLANSKO_MENDED         mended.length: the fresh log's first so many bytes are the mended log;
+ *                            .skipped: how many bytes of the bad log are in ranges skipped
+ *   MELLANSKO_MEND_REFUSED   refused.number: the first of these that holds, in this order:
+ *                            MELLANSKO_LOG_TOO_LONG, of either log, MELLANSKO_LIMIT_TOO_HIGH,
+ *                            MELLANSKO_BUFFER_TOO_SHORT, MELLANSKO_NO_ROOM
+ *
+ * The fresh log may hold anything at first, and from mended.length on it is as it was. The buffer
+ * is left as the reading leaves it: each gathered record is put to its front in turn. The bad log
+ * is never written, and can't be mended in place: the fresh log must not overlap it. A refusal
+ * leaves all of them as they were, also one for want of room.
+ *
+ * The mended log is never longer than the bad one: a fresh log of bad_len bytes has room (12.4). At
+ * the same limit it reads as the same records, with no skip and a clean end (12.6), so it may be
+ * appended to at its length.
+ *
+ * A mended log does not show that anything was lost, nor where: it reads as whole (12.8). Where
+ * something is missing, though not what, is said by a reading of the bad log, as far as a reader
+ * can tell (8). mended.skipped does not count a torn tail: it is 0 too if that is all that was
+ * lost. So keep the bad log.
+ */
+MELLANSKO_KEEP MELLANSKO_NOT_NULL
+uint64_t mellansko_mend(const uint8_t *bad, size_t bad_len, uint8_t *fresh, size_t fresh_len,
+                        size_t limit, uint8_t *buffer, size_t buffer_len,
+                        struct mellansko_answer *answer);
 
 /* ---- the checksum */
 

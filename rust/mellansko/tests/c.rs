@@ -12,6 +12,9 @@ mod header;
 mod install;
 #[path = "c/journal.rs"]
 mod journal;
+#[path = "c/mend.rs"]
+mod mend;
+mod mended;
 
 use mellansko::{Condition, Reason, Refusal};
 

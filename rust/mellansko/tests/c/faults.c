@@ -1,8 +1,8 @@
 /*
- * examples/append_file.c, with calls of the system that do less than they are asked to. Which, the
- * variable FAULT says. To be linked with --wrap for each of the three.
+ * An example, with calls of the system that do less than they are asked to. Which, the variable
+ * FAULT says. To be linked with --wrap for each of the five.
  */
-#include "../../../../examples/append_file.c"
+#include EXAMPLE
 
 #include <stdlib.h>
 
@@ -14,6 +14,10 @@ int __real_fsync(int file);
 int __wrap_fsync(int file);
 int __real_ftruncate(int file, off_t length);
 int __wrap_ftruncate(int file, off_t length);
+int __real_close(int file);
+int __wrap_close(int file);
+int __real_unlink(const char *name);
+int __wrap_unlink(const char *name);
 
 static int is_fault(const char *name)
 {
@@ -49,4 +53,16 @@ int __wrap_fsync(int file)
 int __wrap_ftruncate(int file, off_t length)
 {
     return is_fault("cut") ? fails(EIO) : __real_ftruncate(file, length);
+}
+
+/* The file is closed all the same, as Linux does. */
+int __wrap_close(int file)
+{
+    int result = __real_close(file);
+    return is_fault("close") ? fails(EIO) : result;
+}
+
+int __wrap_unlink(const char *name)
+{
+    return is_fault("unlink") ? fails(EACCES) : __real_unlink(name);
 }

@@ -9,8 +9,9 @@ use std::path::{Path, PathBuf};
 use std::process::{Command, Output, Stdio};
 
 /// With the faults of tests/c/faults.c.
-const FAULTS: Way =
-    "cc -std=c99 -Wall -Wextra -Werror -Wl,--wrap=pwrite,--wrap=fsync,--wrap=ftruncate";
+const FAULTS: Way = "cc -std=c99 -Wall -Wextra -Werror \
+     -DEXAMPLE=\"../../../../examples/append_file.c\" \
+     -Wl,--wrap=pwrite,--wrap=fsync,--wrap=ftruncate,--wrap=close,--wrap=unlink";
 
 /// The samples, the texts beside them, and nothing.
 #[test]
@@ -241,7 +242,7 @@ pub fn reading(log: &[u8]) -> (String, i32) {
     }
 }
 
-fn appended(mut log: Vec<u8>, record: &[u8]) -> Vec<u8> {
+pub fn appended(mut log: Vec<u8>, record: &[u8]) -> Vec<u8> {
     let mark = log.len();
     log.resize(mark + record.len() + 1_000, 0);
     let Appended::Mark(end) = append(&mut log, mark, record) else {
@@ -252,7 +253,7 @@ fn appended(mut log: Vec<u8>, record: &[u8]) -> Vec<u8> {
 }
 
 /// Bytes that do not repeat from block to block.
-fn some_bytes(length: usize, step: usize) -> Vec<u8> {
+pub fn some_bytes(length: usize, step: usize) -> Vec<u8> {
     (0..length).map(|i| (i * step % 251) as u8).collect()
 }
 

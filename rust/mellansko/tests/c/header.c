@@ -18,6 +18,8 @@ struct lent {
     uint8_t buffer[TOO_LONG_RECORD];
     uint8_t before_block;
     uint8_t block[MELLANSKO_BLOCK];
+    uint8_t before_fresh;
+    uint8_t fresh[TOO_LONG_LOG];
 };
 static struct lent now, before;
 
@@ -151,6 +153,26 @@ static void feed_next(int line, size_t buffer_len, size_t place, size_t written,
     changed_only(line, now.buffer + place, written);
 }
 
+/* How long the last record is in each mended log here: one that was gathered. */
+#define LAST_MENDED 3
+
+/* Mends the log's first bytes, to those that are given. */
+static void mend(int line, size_t bad_len, size_t fresh_len, size_t limit, size_t buffer_len,
+                 const uint8_t *mended, const uint64_t *expected)
+{
+    size_t length = expected[0] == MELLANSKO_MENDED ? (size_t)expected[1] : 0;
+    size_t gathered = length > 0 ? LAST_MENDED : 0;
+    uint64_t kind;
+    prepare();
+    kind = mellansko_mend(now.log, bad_len, now.fresh, fresh_len, limit, now.buffer, buffer_len,
+                          &lent_answer.answer);
+    answered(line, kind, expected);
+    holds(line, "the mended log", memcmp(now.fresh, mended, length) == 0);
+    holds(line, "the buffer", memcmp(now.buffer, now.record, gathered) == 0);
+    memcpy(now.fresh, before.fresh, length);
+    changed_only(line, now.buffer, gathered);
+}
+
 /* The words that are not named are 0. */
 #define ANSWER(...) (const uint64_t[MELLANSKO_ANSWER]){__VA_ARGS__}
 #define APPEND(log_len, mark, length, ...) \
@@ -162,6 +184,10 @@ static void feed_next(int line, size_t buffer_len, size_t place, size_t written,
 #define TAKE(place, length, ...) take(__LINE__, place, length, ANSWER(__VA_ARGS__))
 #define FEED_NEXT(buffer_len, place, written, ...) \
     feed_next(__LINE__, buffer_len, place, written, ANSWER(__VA_ARGS__))
+#define MEND(bad_len, fresh_len, limit, buffer_len, mended, ...) \
+    mend(__LINE__, bad_len, fresh_len, limit, buffer_len, mended, ANSWER(__VA_ARGS__))
+#define MEND_REFUSED(bad_len, fresh_len, limit, buffer_len, number) \
+    MEND(bad_len, fresh_len, limit, buffer_len, now.log, MELLANSKO_MEND_REFUSED, number)
 
 /* A fragment of the record's first bytes. */
 static void put(size_t place, uint8_t type, size_t length)
@@ -194,6 +220,9 @@ static void names(void)
     WORD(accepted.mark, 1);
     WORD(taken.kind, 0);
     WORD(taken.length, 1);
+    WORD(mended.kind, 0);
+    WORD(mended.length, 1);
+    WORD(mended.skipped, 2);
     WORD(record.kind, 0);
     WORD(record.start, 1);
     WORD(record.end, 2);
@@ -362,6 +391,45 @@ static void refused_feeds(void)
     FEED(limit, 0, 9, 0, 2);
 }
 
+/* An orphan, a record of one fragment, one of two, and a torn tail; and what becomes of them. */
+static void mending(void)
+{
+    const uint8_t *both = now.log + 1000, *last = both + HEADER + 5;
+    put(0, 3, 1);
+    put(8, 1, 5);
+    put(20, 2, LAST_MENDED);
+    put(30, 4, 0);
+    put(37, 2, 3);
+    put(1000, 1, 5);
+    put(1000 + HEADER + 5, 1, LAST_MENDED);
+    /* So that what is gathered there shows. */
+    memset(now.buffer, 0xA5, 20);
+    MEND(47, 47, 9, 9, both, MELLANSKO_MENDED, 22, 8);
+    MEND(47, 22, 5, 20, both, MELLANSKO_MENDED, 22, 8);
+    MEND(47, 47, 4, 4, last, MELLANSKO_MENDED, 10, 8 + 12);
+    MEND(0, 0, 0, 0, both, MELLANSKO_MENDED, 0, 0);
+}
+
+/* Each condition alone or with all that are judged after it, and its neighbour that is mended. */
+static void refused_mendings(void)
+{
+    const size_t log = MELLANSKO_LONGEST_LOG, limit = MELLANSKO_LONGEST_RECORD;
+    MEND_REFUSED(log + 1, 0, limit + 1, 0, MELLANSKO_LOG_TOO_LONG);
+    MEND_REFUSED(47, log + 1, limit + 1, 0, MELLANSKO_LOG_TOO_LONG);
+    MEND_REFUSED(47, log + 1, 9, 9, MELLANSKO_LOG_TOO_LONG);
+    MEND_REFUSED(47, 0, limit + 1, 0, MELLANSKO_LIMIT_TOO_HIGH);
+    MEND_REFUSED(47, 47, limit + 1, limit + 1, MELLANSKO_LIMIT_TOO_HIGH);
+    MEND_REFUSED(47, 0, 9, 8, MELLANSKO_BUFFER_TOO_SHORT);
+    MEND_REFUSED(47, 47, 9, 8, MELLANSKO_BUFFER_TOO_SHORT);
+    memset(now.buffer, 0xA5, 20);
+    MEND_REFUSED(47, 21, 9, 9, MELLANSKO_NO_ROOM);
+    MEND_REFUSED(47, 0, 9, 9, MELLANSKO_NO_ROOM);
+    MEND(47, 22, 9, 9, now.log + 1000, MELLANSKO_MENDED, 22, 8);
+    memset(now.log, 0, sizeof now.log);
+    MEND_REFUSED(log + 1, log, limit, limit, MELLANSKO_LOG_TOO_LONG);
+    MEND(log, log, limit, limit, now.log, MELLANSKO_MENDED, 0, log);
+}
+
 int main(void)
 {
     const uint8_t digits[] = "123456789";
@@ -380,5 +448,7 @@ int main(void)
     feeding();
     fed_to_the_end();
     refused_feeds();
+    mending();
+    refused_mendings();
     return failures != 0;
 }

@@ -69,9 +69,10 @@ fn its_version_is_that_of_the_rust_crate() {
 }
 
 /// The calls as they are to be made, with a result that is used, and no NULL.
-const CALLS: [&str; 7] = [
+const CALLS: [&str; 8] = [
     "mellansko_append(log, 9, 0, record, 2, &answer)",
     "mellansko_next(log, 9, 0, 2, record, 2, &answer)",
+    "mellansko_mend(log, 9, block, 9, 2, record, 2, &answer)",
     "mellansko_feed_begin(2, &feed, &answer)",
     "mellansko_feed_take(&feed, block, log, 9, &answer)",
     "mellansko_feed_next(&feed, block, record, 2, &answer)",
@@ -111,6 +112,10 @@ fn a_pointer_that_is_null_is_warned_of() {
             "mellansko_next(NULL, 9, 0, 2, record, 2, &answer)",
             "mellansko_next(log, 9, 0, 2, NULL, 2, &answer)",
             "mellansko_next(log, 9, 0, 2, record, 2, NULL)",
+            "mellansko_mend(NULL, 9, block, 9, 2, record, 2, &answer)",
+            "mellansko_mend(log, 9, NULL, 9, 2, record, 2, &answer)",
+            "mellansko_mend(log, 9, block, 9, 2, NULL, 2, &answer)",
+            "mellansko_mend(log, 9, block, 9, 2, record, 2, NULL)",
             "mellansko_feed_begin(2, NULL, &answer)",
             "mellansko_feed_begin(2, &feed, NULL)",
             "mellansko_feed_take(NULL, block, log, 9, &answer)",

@@ -1,0 +1,128 @@
+/*
+ * Mends a journal: writes the records that can be read in the file BAD into a new file NEW, and
+ * prints how many bytes that has, and how many of BAD were skipped.
+ *
+ *   cc -std=c99 -Iinclude examples/mend_file.c target/staticlib/libmellansko.a -o mend_file &&
+ *   ./mend_file samples/damaged.log mended.log
+ *
+ * BAD is only read, and no file is written over: there must be none called NEW. If NEW could not be
+ * written whole, or not be brought to the disk, it is removed again; if that fails too, it says so.
+ * If the power goes meanwhile, NEW may hold a part, which may read as whole: remove it, and mend
+ * again. Only the file is brought to the disk, not its folder: if the power goes soon afterwards,
+ * NEW's name may be missing.
+ *
+ * NEW reads as whole. It does not show that anything was lost, nor where: of BAD, as far as a
+ * reader can tell, examples/read_file.c says where. A torn tail is lost too, and is not counted as
+ * skipped. So keep BAD.
+ *
+ * The exit status is 0 if NEW is written, whatever was skipped. It is 2 if not, or if the lines
+ * could not be printed.
+ */
+#define _POSIX_C_SOURCE 200809L
+#include <errno.h>
+#include <fcntl.h>
+#include <inttypes.h>
+#include <signal.h>
+#include <stdio.h>
+#include <string.h>
+#include <unistd.h>
+
+#include "mellansko.h"
+
+/* One byte more than a log may have, by which a file that is too long shows. */
+static uint8_t bad[MELLANSKO_LONGEST_LOG + 1];
+/* As long as a log may be: a mended one is never longer than the bad one. */
+static uint8_t fresh[MELLANSKO_LONGEST_LOG];
+static uint8_t buffer[MELLANSKO_LONGEST_RECORD];
+
+static int fail(const char *name, const char *why)
+{
+    fprintf(stderr, "%s: nothing was mended: %s\n", name, why);
+    return 0;
+}
+
+/* Reads all of a file, and gives whether it could. */
+static int read_file(const char *name, size_t *length)
+{
+    FILE *file = fopen(name, "rb");
+    int failed;
+    if (file == NULL)
+        return fail(name, strerror(errno));
+    *length = fread(bad, 1, sizeof bad, file);
+    failed = ferror(file);
+    if (failed)
+        fail(name, strerror(errno));
+    fclose(file); /* it was only read: nothing is lost if this fails */
+    return !failed;
+}
+
+/* Writes all of the fresh log's first bytes, however many calls that takes, and on to the disk. */
+static int write_all(int file, size_t length)
+{
+    size_t done = 0;
+    while (done < length) {
+        ssize_t written = pwrite(file, fresh + done, length - done, (off_t)done);
+        if (written < 0 && errno == EINTR)
+            continue;
+        if (written == 0)
+            errno = EIO; /* nothing was written, and no reason given */
+        if (written <= 0)
+            return 0;
+        done += (size_t)written;
+    }
+    return fsync(file) == 0;
+}
+
+/* Makes a file of the fresh log's first bytes: all of them, or none is left. */
+static int put(const char *name, size_t length)
+{
+    const char *why = NULL;
+    /* What is there already is not opened, not even by way of a link. */
+    int file = open(name, O_WRONLY | O_CREAT | O_EXCL, 0666);
+    if (file < 0)
+        return fail(name, strerror(errno));
+    if (!write_all(file, length))
+        why = strerror(errno);
+    if (close(file) != 0 && why == NULL)
+        why = strerror(errno);
+    if (why == NULL)
+        return 1;
+    if (unlink(name) == 0)
+        return fail(name, why);
+    fprintf(stderr, "%s: could not be written (%s), nor be removed: do not use it\n", name, why);
+    return 0;
+}
+
+/* Mends the bad log's first bytes into a new file, and gives whether that is there and was said. */
+static int mend(const char *bad_name, size_t length, const char *new_name)
+{
+    struct mellansko_answer answer;
+    switch (mellansko_mend(bad, length, fresh, sizeof fresh, sizeof buffer, buffer, sizeof buffer,
+                           &answer)) {
+    case MELLANSKO_MENDED:
+        break;
+    default: /* MELLANSKO_MEND_REFUSED: here only of a log that is too long */
+        return fail(bad_name, mellansko_refusal_text(answer.refused.number));
+    }
+    if (!put(new_name, (size_t)answer.mended.length))
+        return 0;
+    printf("written to %s: %" PRIu64 " bytes\n", new_name, answer.mended.length);
+    printf("skipped in %s: %" PRIu64 " bytes, where a torn tail is not counted\n", bad_name,
+           answer.mended.skipped);
+    if (fflush(stdout) == 0 && !ferror(stdout))
+        return 1;
+    fprintf(stderr, "%s: is written, but what was skipped could not be printed\n", new_name);
+    return 0;
+}
+
+int main(int count, char **words)
+{
+    size_t length;
+    if (count != 3) {
+        fprintf(stderr, "usage: mend_file BAD NEW\n");
+        return 2;
+    }
+    /* A write above the size that files may have then fails, and does not end the program. */
+    signal(SIGXFSZ, SIG_IGN);
+    return read_file(words[1], &length) && mend(words[1], length, words[2]) ? 0 : 2;
+}

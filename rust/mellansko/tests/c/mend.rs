@@ -1,0 +1,201 @@
+//! examples/mend_file.c, held to the reference.
+
+use crate::files::{appended, printed, reading, run, said, set_length, some_bytes};
+use crate::folder::{left_out, root, Folder, Way, C, CLANG, SANITIZED};
+use crate::mended::mended;
+use crate::refusal_text;
+use reference::log::{BLOCK, LONGEST_LOG, LONGEST_RECORD};
+use std::fs::{self, File};
+use std::os::unix::fs::symlink;
+use std::path::{Path, PathBuf};
+use std::process::{Command, Output, Stdio};
+
+/// With the faults of tests/c/faults.c.
+const FAULTS: Way = "cc -std=c99 -Wall -Wextra -Werror \
+     -DEXAMPLE=\"../../../../examples/mend_file.c\" \
+     -Wl,--wrap=pwrite,--wrap=fsync,--wrap=ftruncate,--wrap=close,--wrap=unlink";
+
+fn program(folder: &Folder, way: Way) -> PathBuf {
+    folder.program(way, &root().join("examples/mend_file.c"))
+}
+
+fn mend(program: &Path, bad: &Path, new: &Path) -> Output {
+    run(Command::new(program).arg(bad).arg(new), b"")
+}
+
+/// The lines that are printed when a file was mended into another.
+fn lines(bad: &Path, new: &Path, length: usize, skipped: usize) -> String {
+    let (bad, new) = (bad.display(), new.display());
+    let tail = "where a torn tail is not counted";
+    format!("written to {new}: {length} bytes\nskipped in {bad}: {skipped} bytes, {tail}\n")
+}
+
+/// The samples, the texts beside them, a sample that is cut, and nothing.
+#[test]
+fn a_file_is_mended_as_the_reference_mends_it() {
+    let folder = Folder::new("mend");
+    let (bad, new) = (folder.0.join("bad"), folder.0.join("new"));
+    let samples = fs::read_dir(root().join("samples")).expect("the samples");
+    let samples = samples.map(|entry| fs::read(entry.expect("an entry").path()).expect("a file"));
+    let mut logs: Vec<Vec<u8>> = samples.collect();
+    let sample = fs::read(root().join("samples/damaged.log")).expect("a sample");
+    logs.extend([0, 6, 7, BLOCK - 1, BLOCK, 3 * BLOCK].map(|end| sample[..end].to_vec()));
+    for way in folder.there(&[C, SANITIZED, CLANG]) {
+        let program = program(&folder, way);
+        for log in &logs {
+            fs::write(&bad, log).expect("a file");
+            let (expected, skipped) = mended(log, LONGEST_RECORD, &mut vec![0; LONGEST_RECORD]);
+            let ran = mend(&program, &bad, &new);
+            let says = lines(&bad, &new, expected.len(), skipped);
+            assert_eq!((printed(&ran), said(&ran)), ((says, 0), String::new()));
+            assert!(fs::read(&new).expect("the new file") == expected, "{way:?}");
+            assert!(fs::read(&bad).expect("the bad file") == *log, "{way:?}");
+            // It reads as whole.
+            assert_eq!(reading(&expected).1, 0);
+            fs::remove_file(&new).expect("the new file");
+        }
+    }
+}
+
+/// One in which nothing can be read, and one that is whole.
+#[test]
+fn the_longest_journals_are_mended() {
+    let folder = Folder::new("mend-long");
+    let (bad, new) = (folder.file("bad", ""), folder.0.join("new"));
+    let record = some_bytes(LONGEST_RECORD, 3);
+    let mut whole = Vec::new();
+    while whole.len() + LONGEST_RECORD + 9 * 7 <= LONGEST_LOG {
+        whole = appended(whole, &record);
+    }
+    for way in folder.there(&[C]) {
+        let program = program(&folder, way);
+        for (log, length, skipped) in [
+            (vec![0; LONGEST_LOG], 0, LONGEST_LOG),
+            (whole.clone(), whole.len(), 0),
+        ] {
+            fs::write(&bad, &log).expect("a file");
+            let ran = mend(&program, &bad, &new);
+            assert_eq!(printed(&ran), (lines(&bad, &new, length, skipped), 0));
+            assert!(fs::read(&new).expect("the new file") == log[..length]);
+            fs::remove_file(&new).expect("the new file");
+        }
+    }
+}
+
+/// No file is made, and none that is there is changed.
+#[test]
+fn what_can_not_be_mended_makes_no_file() {
+    let folder = Folder::new("mend-not");
+    let bad = folder.file("bad", some_bytes(100, 3));
+    let (new, none) = (folder.0.join("new"), folder.0.join("none"));
+    let long = folder.file("long", "");
+    set_length(&long, LONGEST_LOG + 1);
+    let there = folder.file("there", "mine");
+    symlink(&none, folder.0.join("link")).expect("a link");
+    for way in folder.there(&[C, SANITIZED]) {
+        let program = program(&folder, way);
+        let fails = |bad: &Path, new: &Path, says: &str| {
+            let ran = mend(&program, bad, new);
+            assert_eq!(printed(&ran), (String::new(), 2));
+            let says = format!("nothing was mended: {says}");
+            assert!(said(&ran).contains(&says), "{}", said(&ran));
+        };
+        fails(&none, &new, "No such file");
+        fails(&folder.0, &new, "Is a directory");
+        fails(&long, &new, &refusal_text(1));
+        assert!(!new.exists());
+        for new in [&there, &bad, &folder.0, &folder.0.join("link")] {
+            fails(&bad, new, "File exists");
+        }
+        assert!(!none.exists());
+        fails(&bad, &none.join("new"), "No such file");
+        assert_eq!(fs::read(&there).expect("the file"), b"mine");
+        assert_eq!(fs::read(&bad).expect("the file"), some_bytes(100, 3));
+        for words in [&[][..], &[&bad], &[&bad, &new, &there]] {
+            let ran = run(Command::new(&program).args(words), b"");
+            assert_eq!(printed(&ran), (String::new(), 2));
+            assert!(said(&ran).contains("usage"), "{}", said(&ran));
+        }
+        assert!(!new.exists());
+    }
+}
+
+/// A new file that is written is kept, but not as if all were well.
+#[test]
+fn what_can_not_be_printed_was_not_said() {
+    let folder = Folder::new("mend-said");
+    let bad = root().join("samples/damaged.log");
+    let new = folder.0.join("new");
+    let Ok(full) = File::options().write(true).open("/dev/full") else {
+        return left_out("/dev/full");
+    };
+    for way in folder.there(&[C]) {
+        let mut command = Command::new(program(&folder, way));
+        let full = full.try_clone().expect("the same file");
+        let command = command.arg(&bad).arg(&new).stdout(full);
+        let ran = command
+            .stderr(Stdio::piped())
+            .output()
+            .expect("the program");
+        assert_eq!(ran.status.code(), Some(2));
+        assert!(said(&ran).contains("is written"), "{}", said(&ran));
+        let log = fs::read(&bad).expect("a sample");
+        let (expected, _) = mended(&log, LONGEST_RECORD, &mut vec![0; LONGEST_RECORD]);
+        assert!(fs::read(&new).expect("the new file") == expected);
+    }
+}
+
+/// Interrupted, short and failing writes, and a disk that does not take them.
+#[test]
+fn a_file_that_is_not_written_whole_is_removed() {
+    let folder = Folder::new("mend-faults");
+    let log = appended(Vec::new(), &some_bytes(40_000, 7));
+    let (bad, new) = (folder.file("bad", &log), folder.0.join("new"));
+    for way in folder.there(&[FAULTS]) {
+        let source = root().join("rust/mellansko/tests/c/faults.c");
+        let program = folder.program(way, &source);
+        let run = |fault: &str| {
+            let mut command = Command::new(&program);
+            run(command.env("FAULT", fault).arg(&bad).arg(&new), b"")
+        };
+        let ran = run("");
+        assert_eq!(printed(&ran), (lines(&bad, &new, log.len(), 0), 0));
+        assert!(fs::read(&new).expect("the new file") == log);
+        fs::remove_file(&new).expect("the new file");
+        for fault in ["full", "zero", "fsync", "close"] {
+            let ran = run(fault);
+            assert_eq!(printed(&ran), (String::new(), 2), "{fault}");
+            assert!(said(&ran).contains("nothing was mended"), "{}", said(&ran));
+            assert!(!new.exists(), "{fault}");
+            // Where that fails too, it is said.
+            let ran = run(&format!("{fault} unlink"));
+            assert_eq!(printed(&ran), (String::new(), 2), "{fault}");
+            let says = "nor be removed: do not use it";
+            assert!(said(&ran).contains(says), "{}", said(&ran));
+            fs::remove_file(&new).expect("what is left of it");
+        }
+        assert!(fs::read(&bad).expect("the bad file") == log);
+    }
+}
+
+/// The kernel's own refusal, in the middle of a write.
+#[test]
+fn a_file_that_may_not_grow_is_removed() {
+    let folder = Folder::new("mend-limit");
+    let log = appended(Vec::new(), &some_bytes(40_000, 7));
+    let (bad, new) = (folder.file("bad", log), folder.0.join("new"));
+    for way in folder.there(&[C]) {
+        // 64 times 512 bytes.
+        let limited = "ulimit -f 64 && exec \"$0\" \"$1\" \"$2\"";
+        let mut shell = Command::new("sh");
+        shell.args(["-c", limited]).arg(program(&folder, way));
+        let ran = run(shell.arg(&bad).arg(&new), b"");
+        if ran.status.success() || said(&ran).contains("ulimit") {
+            left_out(&format!("a limit on a file's length: {}", said(&ran)));
+            continue;
+        }
+        assert_eq!(printed(&ran), (String::new(), 2));
+        assert!(said(&ran).contains("File too large"), "{}", said(&ran));
+        assert!(!new.exists());
+    }
+}
