@@ -10,7 +10,8 @@ use crate::{meaning, Next, Refusal};
 /// log that was read, from a file say, a record is appended at its length, if all of it reads with
 /// no skip and a clean end, as [`records`](crate::records) shows. If not, begin another log: a record
 /// after what is in doubt may be skipped with it, and one over it destroys what may be left there.
-/// What the log holds makes no difference to the call: one at a lower mark writes over records.
+/// [`mend`](crate::mend) begins one with the records that are left. What the log holds makes no
+/// difference to the call: one at a lower mark writes over records.
 ///
 /// ```
 /// let mut log = [0xff; 64];

@@ -61,10 +61,31 @@
 //! # Ok::<(), mellansko::NotRead>(())
 //! ```
 //!
+//! [`mend`] writes the records that are left in a damaged log into a new one, which then reads as
+//! whole and can be appended to. Where something is missing, as far as a reader can tell, only the
+//! damaged one shows, so it is worth keeping:
+//!
+//! ```
+//! use mellansko::LONGEST_RECORD;
+//!
+//! # let mut bad = [0; 38];
+//! # let mark = mellansko::append(&mut bad, 0, b"LW10-1 0.9137")?;
+//! # mellansko::append(&mut bad, mark, b"LW11 0.8412")?;
+//! # bad[30] ^= 1;
+//! let mut fresh = vec![0; bad.len()];
+//! let mut buffer = vec![0; LONGEST_RECORD];
+//! let mended = mellansko::mend(&bad, &mut fresh, LONGEST_RECORD, &mut buffer)?;
+//! fresh.truncate(mended.length);
+//! println!("{} bytes were skipped", mended.skipped);
+//! # assert_eq!((mended.length, mended.skipped), (20, 18));
+//! # assert_eq!(fresh, bad[..20]);
+//! # Ok::<(), mellansko::Refusal>(())
+//! ```
+//!
 //! # What is promised
 //!
 //! Of the calls that this crate links this is proved. `docs/FORMAT.md` of the repository has the exact
-//! words (§5 to §7, §11.12), and `docs/PROOF.md` says what the proof rests on:
+//! words (§5 to §7, §11.12, §12), and `docs/PROOF.md` says what the proof rests on:
 //!
 //! - Whatever it is lent, each call ends and does nothing undefined. One that is refused changes no
 //!   lent byte.
@@ -77,6 +98,10 @@
 //!   trailer outside of these.
 //! - A log that is fed in pieces, wherever they are cut, has the answers of the whole log. Each is
 //!   given as early as can be: as soon as all logs have it that begin with what has come.
+//! - Mending a log, of any 16,777,216 bytes or fewer, makes one that is no longer than it. With the
+//!   same limit that reads as the records that a reading of the bad one answers, with nothing
+//!   skipped and a clean end. A log that appends made from mark 0 on comes out as it was, if the
+//!   limit is not below any record.
 //!
 //! This crate itself is tested, not proved. It puts the answers, ten numbers each, into types, cuts
 //! a record's bytes out of the slice that its answer names, and feeds what a source of bytes gives.
@@ -118,6 +143,7 @@ mod certain;
 mod feed;
 mod incoming;
 mod meaning;
+mod mend;
 // For comparisons and benchmarks.
 #[doc(hidden)]
 pub mod numbers;
@@ -131,6 +157,7 @@ pub use calls::{append, crc32c, mask, next};
 pub use certain::Certain;
 pub use feed::Feed;
 pub use incoming::{Incoming, NotRead};
+pub use mend::{mend, Mended};
 pub use reading::{Answer, Reading};
 pub use reason::Reason;
 pub use records::{records, records_with_limit, Doubt, NotWhole};

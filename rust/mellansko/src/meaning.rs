@@ -4,7 +4,7 @@
 //! are: that part goes into the caller's loop, the others are called.
 
 use crate::numbers::Numbers;
-use crate::{Condition, Next, Reason, Record, Refusal, Skip, Stored, Tail};
+use crate::{Condition, Mended, Next, Reason, Record, Refusal, Skip, Stored, Tail};
 
 /// The new mark.
 #[inline]
@@ -30,6 +30,18 @@ pub fn begun(kind: u64, answer: &Numbers) -> Result<(), Refusal> {
 pub fn taken(kind: u64, answer: &Numbers) -> Result<usize, Refusal> {
     match kind {
         0 => Ok(number(answer, 1)),
+        1 => Err(refusal(answer)),
+        _ => unproved(answer),
+    }
+}
+
+/// How long a mended log is, and how much was skipped.
+pub fn mended(kind: u64, answer: &Numbers) -> Result<Mended, Refusal> {
+    match kind {
+        0 => Ok(Mended {
+            length: number(answer, 1),
+            skipped: number(answer, 2),
+        }),
         1 => Err(refusal(answer)),
         _ => unproved(answer),
     }

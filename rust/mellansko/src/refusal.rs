@@ -10,17 +10,18 @@ use std::fmt;
 pub struct Refusal {
     /// The condition that it is refused on.
     pub condition: Condition,
-    /// The mark or place that the call was given. A [`Feed`](crate::Feed) takes neither: 0.
+    /// The mark or place that the call was given. A [`Feed`](crate::Feed) takes neither, nor does
+    /// [`mend`](crate::mend): 0.
     pub given: usize,
 }
 
-/// The conditions on which a call is refused. Where several hold, the one with the lowest number is
-/// given: they are ordered by their numbers. More may come.
+/// The conditions on which a call is refused, ordered by their numbers. Where several hold, the one
+/// with the lowest number is given; but [`mend`](crate::mend) judges `NoRoom` last. More may come.
 #[derive(Clone, Copy, Debug, PartialEq, Eq, PartialOrd, Ord, Hash)]
 #[non_exhaustive]
 pub enum Condition {
-    /// Writing or reading: the log has more than [`LONGEST_LOG`] bytes. Of a piece: what has come
-    /// and all of the piece together have more.
+    /// Writing or reading: the log has more than [`LONGEST_LOG`] bytes. Mending: the bad log or the
+    /// fresh slice has more. Of a piece: what has come and all of the piece together have more.
     LogTooLong = 1,
     /// Writing or reading: the mark or place is above the log's length. (To C it also says that the
     /// state of a fed reader is none that its calls lead to. That of a [`Feed`](crate::Feed) is.)
@@ -28,11 +29,12 @@ pub enum Condition {
     /// Writing: the record has more than [`LONGEST_RECORD`] bytes.
     RecordTooLong = 3,
     /// Writing: the record, with its headers and the trailer before it if there is one, needs more
-    /// bytes than the log has from the mark on.
+    /// bytes than the log has from the mark on. Mending: all records together, with theirs, need
+    /// more than the fresh slice has.
     NoRoom = 4,
-    /// Reading: the limit is above [`LONGEST_RECORD`].
+    /// Reading or mending: the limit is above [`LONGEST_RECORD`].
     LimitTooHigh = 5,
-    /// Reading: the buffer has fewer bytes than the limit.
+    /// Reading or mending: the buffer has fewer bytes than the limit.
     BufferTooShort = 6,
     /// Of a piece, also of one of no bytes: the log's end was announced before it.
     AfterEnd = 20,

@@ -2,10 +2,11 @@
 //! bytes that it leads to.
 
 mod expected;
+mod mended;
 mod random;
 
 use expected::{appended, next_of, read as answered, refused};
-use mellansko::{Answer, Condition, Next, Reading, Refusal, Stored};
+use mellansko::{Answer, Condition, Mended, Next, Reading, Refusal, Stored};
 use random::Random;
 use reference::log::{self, fragment, BLOCK, LONGEST_LOG, LONGEST_RECORD};
 use std::collections::BTreeSet;
@@ -33,13 +34,16 @@ fn on_logs_whole_cut_and_changed() {
         let mut log = written(&mut random, shape);
         for limit in limits {
             read(&log, limit, &mut reasons);
+            mend(&log, limit);
         }
         for place in places(log.len(), &mut random) {
             let limit = limits[random.below(limits.len())];
             read(&log[..place], limit, &mut reasons);
+            mend(&log[..place], limit);
             if place < log.len() {
                 log[place] ^= 0xFF;
                 read(&log, limit, &mut reasons);
+                mend(&log, limit);
                 log[place] ^= 0xFF;
             }
         }
@@ -58,6 +62,7 @@ fn three_fragments(random: &mut Random, reasons: &mut BTreeSet<u8>) {
         });
         for limit in [0, 2, 6] {
             read(&three.concat(), limit, reasons);
+            mend(&three.concat(), limit);
         }
     }
 }
@@ -134,6 +139,35 @@ fn gives(answer: Option<Answer>, expected: log::Next, bytes: &[u8], call: &str) 
         Answer::End(tail) => Next::End(tail),
     };
     assert_eq!(next_of(next), expected, "reading, {call}");
+}
+
+/// Mends a log into a slice that is longer than it, into the shortest that does, and into one that
+/// is shorter by a byte.
+fn mend(log: &[u8], limit: usize) {
+    let (mut ours, mut theirs) = (vec![0; limit + 3], vec![0xA5; limit + 3]);
+    let (expected, skipped) = mended::mended(log, limit, &mut theirs);
+    let length = expected.len();
+    let call = format!("{} bytes mended with limit {limit}", log.len());
+    for room in [log.len() + 3, length] {
+        let mut fresh = vec![0x5A; room];
+        // As theirs was, and not as the last call left it.
+        ours.fill(0xA5);
+        let got = mellansko::mend(log, &mut fresh, limit, &mut ours);
+        assert_eq!(got, Ok(Mended { length, skipped }), "{call}");
+        assert!(fresh[..length] == expected, "mended log, {call}");
+        assert!(fresh[length..].iter().all(|&byte| byte == 0x5A), "{call}");
+        assert!(ours == theirs, "buffer, {call}");
+    }
+    if length > 0 {
+        let mut fresh = vec![0x5A; length - 1];
+        ours.fill(0xC3);
+        let refusal = mellansko::mend(log, &mut fresh, limit, &mut ours).unwrap_err();
+        let (number, given) = (4, 0);
+        let expected = log::Next::Refused { number, given };
+        assert_eq!(refused(refusal), expected, "{call}");
+        assert!(fresh.iter().all(|&byte| byte == 0x5A), "fresh, {call}");
+        assert!(ours.iter().all(|&byte| byte == 0xC3), "buffer, {call}");
+    }
 }
 
 #[test]

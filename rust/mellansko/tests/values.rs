@@ -1,7 +1,7 @@
 //! What is given, as values: in sets, in order, between threads, and as errors.
 
 use mellansko::{
-    append, Answer, Certain, Condition, Doubt, Feed, Incoming, Next, NotRead, NotWhole,
+    append, Answer, Certain, Condition, Doubt, Feed, Incoming, Mended, Next, NotRead, NotWhole,
 };
 use mellansko::{Reading, Reason, Record, Refusal, Skip, Stored, Tail, LONGEST_RECORD};
 use reference::log::{fragment, FIRST, LAST};
@@ -65,8 +65,8 @@ fn of_their_types() {
     fn error<T: Error + Send + Sync + 'static>() {}
     fn sent<T: Debug + Send + Sync>() {}
     value::<(Next, Record, Stored, Skip, Tail, Reason)>();
-    value::<(Refusal, Condition, Answer, Doubt, NotWhole)>();
-    small::<(Next, Refusal)>();
+    value::<(Refusal, Condition, Answer, Doubt, NotWhole, Mended)>();
+    small::<(Next, Refusal, Mended)>();
     error::<Refusal>();
     error::<NotWhole>();
     error::<NotRead>();

@@ -1,5 +1,5 @@
 //! The words for people, as they are to be read: beside the numbers and names of docs/FORMAT.md
-//! (§4.7, §5.1, §11.11).
+//! (§4.7, §5.1, §11.11, §12.5).
 
 use mellansko::{records, records_with_limit, Condition, Reason, Refusal, Skip, Tail};
 use reference::log::{fragment, FULL, LAST};

@@ -29,8 +29,8 @@ pub fn mend(
     buffer: &mut [u8],
     answer: &mut Numbers,
 ) -> u64 {
-    // SAFETY: the call requires nothing, reads and writes the slices and the array alone and keeps
-    // nothing of them.
+    // SAFETY: the call requires nothing, reads and writes the four slices alone and keeps nothing
+    // of them. Those that it writes are lent to it alone, so nothing overlaps them.
     unsafe {
         mellansko_mend(
             bad.as_ptr(),

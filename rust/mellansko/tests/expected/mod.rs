@@ -1,5 +1,5 @@
 //! The crate's answers, in the reference's types. How its reasons and conditions are numbered is
-//! said here once more, by docs/FORMAT.md (§4.7, §5.1, §11.11) and not by the crate's lists.
+//! said here once more, by docs/FORMAT.md (§4.7, §5.1, §11.11, §12.5) and not by the crate's lists.
 
 // Each test program takes a part of it.
 #![allow(dead_code)]
