@@ -7,6 +7,7 @@ mod checksums;
 mod damaged;
 mod fed;
 mod logs;
+mod mend;
 mod other;
 mod sample;
 mod turns;
@@ -19,12 +20,13 @@ use std::env::args;
 type Part = (&'static str, fn(&mut [Other]));
 
 /// In the order in which they are printed.
-const PARTS: [Part; 5] = [
+const PARTS: [Part; 6] = [
     ("checksums", |_| checksums::print()),
     ("logs", logs::print),
     ("types", |_| types::print()),
     ("fed", |_| fed::print()),
     ("damaged", |_| damaged::print()),
+    ("mend", |_| mend::print()),
 ];
 
 /// The arguments: `--leveldb` and the program made of bench/leveldb.cc, `--before` and this program
