@@ -80,6 +80,8 @@ impl Place {
     fn run(&self, program: &Path, words: &[&str]) -> Ran {
         let mut command = Command::new(program);
         command.args(words).current_dir("/").stdin(Stdio::null());
+        // Nor a ready archive, which would be taken without the toolchain.
+        command.env_remove("MELLANSKO_STATICLIB");
         ran(command.env("PATH", &self.bin))
     }
 
