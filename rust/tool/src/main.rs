@@ -5,14 +5,18 @@
 
 mod arguments;
 mod commands;
+mod disk;
 mod fed;
 mod gap;
 mod gaps;
 mod help;
 mod journal;
+mod list;
+mod meaning;
 mod output;
 mod page;
 mod progress;
+mod rows;
 mod screen;
 mod shell;
 mod survey;

@@ -17,6 +17,15 @@ impl Survey {
                 self.records_and_last("")
             );
         }
+        format!(
+            "IN{TIED}DOUBT: {}. It has {}",
+            self.doubtful(),
+            self.records_and_last("readable ")
+        )
+    }
+
+    /// How much is in doubt, in which blocks, and whether the end is torn.
+    pub fn doubtful(&self) -> String {
         let doubt = self.gaps.bytes();
         let torn = match self.torn {
             Some(start) => format!("; its end is torn from {} on", numbered("byte", start)),
@@ -26,11 +35,8 @@ impl Survey {
             true => format!("all of its {}", bytes(doubt)),
             false => format!("{} of its {}", grouped(doubt), bytes(self.length)),
         };
-        format!(
-            "IN{TIED}DOUBT: {bytes}, in {}{torn}. It has {}",
-            blocks_among(&self.doubtful_blocks(), self.blocks()),
-            self.records_and_last("readable ")
-        )
+        let blocks = blocks_among(&self.doubtful_blocks(), self.blocks());
+        format!("{bytes}, in {blocks}{torn}")
     }
 
     /// How many such records there are, and where the last one stands: whoever knows what was

@@ -4,43 +4,18 @@
 mod common;
 
 use common::expect::written;
-use common::files::{left_out, Folder};
+use common::files::Folder;
+use common::preload::{faults, with};
 use common::{fed, ran, tool, Ran};
 use reference::log::{fragment, FULL, LAST};
 use std::fs;
-use std::path::{Path, PathBuf};
-use std::process::{Command, Stdio};
-
-/// The calls of `common/faults.rs`, built for LD_PRELOAD. None where its numbers of calls are not
-/// the system's.
-fn faults(folder: &Folder) -> Option<PathBuf> {
-    if !cfg!(all(target_os = "linux", target_arch = "x86_64")) {
-        left_out("a disk that fails: only for Linux on x86-64");
-        return None;
-    }
-    let library = folder.join("faults.so");
-    let source = Path::new(env!("CARGO_MANIFEST_DIR")).join("tests/common/faults.rs");
-    let mut rustc = Command::new("rustc");
-    rustc.args(["--edition", "2021", "--crate-type", "cdylib", "-o"]);
-    rustc.arg(&library).arg(source).stdin(Stdio::null());
-    let built = ran(&mut rustc);
-    assert_eq!(built.status, Some(0), "{}", built.err);
-    Some(library)
-}
+use std::path::Path;
+use std::process::Command;
 
 fn appending(library: &Path, words: &[&str], file: &Path, fault: (&str, &str)) -> Command {
     let mut command = tool();
     command.arg("append").args(words).arg(file);
-    with(library, fault, command)
-}
-
-fn with(library: &Path, fault: (&str, &str), mut command: Command) -> Command {
-    // The library by its name and its folder: LD_PRELOAD takes no path with a space.
-    let [name, folder] = [library.file_name(), library.parent().map(Path::as_os_str)];
-    command.env("LD_PRELOAD", name.expect("a name"));
-    command.env("LD_LIBRARY_PATH", folder.expect("a folder"));
-    command.env(fault.0, fault.1);
-    command
+    with(library, &[fault], command)
 }
 
 fn append(library: &Path, words: &[&str], file: &Path, fault: (&str, &str)) -> Ran {
@@ -127,12 +102,12 @@ fn a_list_that_is_longer_than_twenty_is_of_the_file_that_was_judged() {
     let plain = ran(&mut verify());
     assert_eq!(plain.text().matches("\nGap of ").count(), 30);
     // What is added later is no part of it.
-    let grown = ran(&mut with(&library, ("GROW", "log"), verify()));
+    let grown = ran(&mut with(&library, &[("GROW", "log")], verify()));
     assert!(fs::metadata(&file).expect("the file").len() > 30 * 16);
     assert_eq!((grown.status, grown.text()), (Some(1), plain.text()));
 
     folder.file("log", &log.repeat(30));
-    let changed = ran(&mut with(&library, ("CHANGE", "log"), verify()));
+    let changed = ran(&mut with(&library, &[("CHANGE", "log")], verify()));
     assert_eq!(changed.lines()[0], plain.lines()[0]);
     changed.complained(2, &["log", "changed while it was read"]);
 }

@@ -2,13 +2,13 @@
 
 mod advice;
 mod every;
-mod list;
-mod rows;
 
 use crate::journal::Source;
+use crate::list;
 use crate::output::Output;
 use crate::page::Page;
 use crate::progress::Progress;
+use crate::rows::Rows;
 use crate::screen::Screen;
 use crate::survey::Survey;
 use crate::trouble::Trouble;
@@ -17,7 +17,6 @@ use crate::walk::Walk;
 use crate::words::{grouped, shown};
 use crate::Status;
 use mellansko::LONGEST_RECORD;
-use rows::Rows;
 use std::io;
 
 /// What was found in a journal.
@@ -85,7 +84,7 @@ impl Finding<'_> {
         }
         match all && self.survey.gaps.are_hidden() {
             true => every::gaps(self, &mut rows)?,
-            false => list::gaps(self, &mut rows)?,
+            false => list::gaps(&self.survey.gaps, self.source.word(), &mut rows)?,
         }
         Ok(rows.number)
     }

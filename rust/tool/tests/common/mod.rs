@@ -7,6 +7,7 @@ pub mod damage;
 pub mod expect;
 pub mod files;
 pub mod live;
+pub mod preload;
 #[path = "../../../mellansko/tests/random/mod.rs"]
 pub mod random;
 pub mod report;

@@ -20,9 +20,14 @@ pub fn check<'a>(name: &str, log: &[u8], lines: &'a [&'a str]) -> &'a [&'a str] 
     let found = Found::in_log(log);
     let verdict = lines[0].strip_prefix(name).expect(name);
     check_verdict(verdict, &found);
-    let mut rest = &lines[1..];
+    check_gaps(&found, &lines[1..])
+}
+
+/// Holds a list of all gaps, each with its ranges. Gives the lines after it.
+pub fn check_gaps<'a>(found: &Found, lines: &'a [&'a str]) -> &'a [&'a str] {
+    let mut rest = lines;
     for gap in found.gaps() {
-        check_heading(rest[0], &gap, &found);
+        check_heading(rest[0], &gap, found);
         rest = &rest[1..];
         for (range, reason) in &gap.ranges {
             let mut expected = vec![range.start, range.end, range.len()];
@@ -48,12 +53,24 @@ pub fn check_verdict(verdict: &str, found: &Found) {
     assert_eq!(numbers(verdict), figures(found), "{verdict}");
 }
 
-/// The bytes in doubt unless that is all of them, all bytes, the blocks in doubt if there are any, all
-/// blocks, where a torn tail starts, how many records can be read, and where the last one stands.
+/// Those of the bytes in doubt, how many records can be read, and where the last one stands.
 fn figures(found: &Found) -> Vec<usize> {
     if found.length == 0 {
         return Vec::new();
     }
+    let mut figures = figures_of_doubt(found);
+    let records = found.records.len();
+    if let Some((last, _)) = found.records.last() {
+        let times = if records == 1 { 1 } else { 2 };
+        figures.extend(vec![records; times]);
+        figures.extend([last.start, last.end]);
+    }
+    figures
+}
+
+/// The bytes in doubt unless that is all of them, all bytes, the blocks in doubt if there are any,
+/// all blocks, and where a torn tail starts.
+pub fn figures_of_doubt(found: &Found) -> Vec<usize> {
     let doubt: usize = found.doubtful().iter().map(|range| range.len()).sum();
     let mut figures = Vec::new();
     figures.extend((doubt > 0 && doubt < found.length).then_some(doubt));
@@ -61,12 +78,6 @@ fn figures(found: &Found) -> Vec<usize> {
     figures.extend(doubtful_blocks(found));
     figures.push(found.blocks());
     figures.extend(found.torn);
-    let records = found.records.len();
-    if let Some((last, _)) = found.records.last() {
-        let times = if records == 1 { 1 } else { 2 };
-        figures.extend(vec![records; times]);
-        figures.extend([last.start, last.end]);
-    }
     figures
 }
 

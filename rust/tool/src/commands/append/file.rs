@@ -1,16 +1,16 @@
 //! The file that a record is appended to: looked for, locked, and made longer.
 
+use crate::disk::{folder_of, outlive_a_limit, sync_folder_of};
 use crate::journal;
 use crate::progress::Progress;
 use crate::shell::typed;
 use crate::trouble::{in_words, Trouble};
 use crate::words::{grouped, shown};
 use mellansko::LONGEST_LOG;
-use std::ffi::{c_int, OsStr};
+use std::ffi::OsStr;
 use std::fs::{self, File, OpenOptions, TryLockError};
 use std::io::{self, Write};
 use std::os::unix::fs::MetadataExt;
-use std::path::Path;
 
 /// The file, opened, or none if it is to be a new one.
 pub fn found(path: &OsStr, new: bool) -> Result<Option<File>, Trouble> {
@@ -55,13 +55,6 @@ fn not_begun(path: &OsStr, error: &io::Error) -> Trouble {
 fn there_already(path: &OsStr) -> Trouble {
     let add = typed("append", path, "");
     nothing_appended(path, &format!("it is there already. To add to it: {add}"))
-}
-
-fn folder_of(path: &OsStr) -> &Path {
-    match Path::new(path).parent() {
-        Some(folder) if !folder.as_os_str().is_empty() => folder,
-        _ => Path::new("."),
-    }
 }
 
 fn existing(path: &OsStr) -> Result<File, Trouble> {
@@ -163,25 +156,8 @@ fn put(mut file: &File, path: &OsStr, added: &[u8], new: bool) -> io::Result<()>
     outlive_a_limit();
     file.write_all(added)?;
     file.sync_all()?;
-    match new.then(|| File::open(folder_of(path))) {
-        Some(Ok(folder)) => folder.sync_all(),
-        // A folder that may be written and not be read: the record itself is on the disk.
-        Some(Err(error)) if error.kind() != io::ErrorKind::PermissionDenied => Err(error),
-        _ => Ok(()),
+    match new {
+        true => sync_folder_of(path),
+        false => Ok(()),
     }
-}
-
-extern "C" {
-    fn signal(number: c_int, handler: usize) -> usize;
-}
-
-/// The signal of a write above the size that files may have, and the wish to hear nothing of it, on
-/// Linux.
-const SIGXFSZ: c_int = 25;
-const SIG_IGN: usize = 1;
-
-/// Such a write then fails, and is taken back, instead of ending the tool halfway.
-fn outlive_a_limit() {
-    // Safe: nothing is called when the signal comes.
-    unsafe { signal(SIGXFSZ, SIG_IGN) };
 }

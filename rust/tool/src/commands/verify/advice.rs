@@ -3,13 +3,13 @@
 use super::{statuses, Finding, Found};
 use crate::gap::Place;
 use crate::journal::{begin_another, Source};
+use crate::meaning;
 use crate::page::Page;
 use crate::screen::Screen;
 use crate::shell::typed;
 use crate::survey::Survey;
 use crate::words::grouped;
 use crate::Status;
-use mellansko::{Reason, LONGEST_RECORD};
 use std::ffi::OsStr;
 
 /// As many bytes of a file as are shown where nothing in it can be read: those of a header.
@@ -18,19 +18,11 @@ pub const BEGINNING: usize = 7;
 /// As many journals as are named again after a report on several.
 const NAMED: usize = 5;
 
-/// What to compare, and why.
-fn compare(what: &str) -> String {
-    format!(
-        "{what} with what you expect: records cut off at the end, and blocks left out, repeated or replaced by sound \
-         ones, may not show."
-    )
-}
-
 pub fn for_one(finding: &Finding, screen: Screen) -> Page {
     let mut page = Page::new(screen);
     let survey = &finding.survey;
     if survey.status() == Status::Done {
-        page.prose(&compare("Compare the records"));
+        page.prose(&meaning::compare("Compare the records"));
         return page;
     }
     page.empty_row();
@@ -58,31 +50,11 @@ fn unreadable(finding: &Finding) -> String {
 
 /// What each kind of doubt means, where some records can be read.
 fn by_case(survey: &Survey) -> Vec<String> {
-    let over_limit = survey.reasons.contains(&Reason::OverLimit);
-    let mut sentences = Vec::new();
-    if survey.reasons.len() > usize::from(over_limit) {
-        sentences.push(format!(
-            "Nothing of {} is handed out, and nobody can tell how many records were written there. One of them may have \
-             been newer than a record before it, and have replaced it, as new factors or a new start list do. Do not \
-             rely on what may have been replaced: ask for another copy of the journal, or ask whoever wrote it.",
-            if survey.gaps.number() > 1 { "the gaps" } else { "the gap" }
-        ));
-    }
-    if over_limit {
-        sentences.push(format!(
-            "A record of more than {} bytes may be sound: this tool does not read it, but the program that wrote it may.",
-            grouped(LONGEST_RECORD)
-        ));
-    }
-    if survey.torn.is_some() {
-        sentences.push(
-            "Its end is torn: that may be the record that was being written when the power went. Damage in the last \
-             block can look the same, so see whether the last record that can be read is the one you expect. To \
-             go on, begin a new journal."
-                .into(),
-        );
-    }
-    sentences
+    let torn = meaning::of_torn_end(survey, "Its");
+    let torn = torn.map(|torn| format!("{torn} To go on, begin a new journal."));
+    let gaps = meaning::of_gaps(survey, "handed out");
+    let cases = [gaps, meaning::of_long_records(survey), torn];
+    cases.into_iter().flatten().collect()
 }
 
 /// What can be typed next.
@@ -134,7 +106,9 @@ fn cats(word: &OsStr, lead: &str, places: &[Option<Place>], page: &mut Page) {
 pub fn for_several(findings: &[Found], screen: Screen) -> Page {
     let mut page = Page::new(screen);
     if statuses(findings).any(|status| status == Status::Done) {
-        page.prose(&compare("Where no damage is found, compare the records"));
+        page.prose(&meaning::compare(
+            "Where no damage is found, compare the records",
+        ));
     }
     let doubtful: Vec<&Finding> = findings
         .iter()

@@ -4,12 +4,12 @@
 //! the file is read twice more, side by side: one walk goes ahead to where the gap ends, and the
 //! other comes after it to list the ranges. Neither keeps any.
 
-use super::list::entry;
-use super::rows::Rows;
 use super::Finding;
 use crate::fed::Fed;
 use crate::gap::{Doubt, Gap, Place};
 use crate::gaps::Gaps;
+use crate::list::entry;
+use crate::rows::Rows;
 use crate::trouble::Trouble;
 use crate::walk::{Thing, Walk};
 use mellansko::{Feed, NotRead};

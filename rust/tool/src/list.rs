@@ -1,19 +1,19 @@
 //! The gaps of a journal, each with its ranges.
 
-use super::rows::Rows;
-use super::Finding;
 use crate::gap::{Doubt, Gap};
+use crate::gaps::Gaps;
+use crate::rows::Rows;
 use crate::shell::typed;
 use crate::trouble::Trouble;
 use crate::words::{blocks, blocks_of, bytes, count, from_to, grouped};
 use mellansko::{Reason, LONGEST_RECORD};
+use std::ffi::OsStr;
 
 /// As many gaps, and as many ranges of one, as are listed unless all are asked for.
 pub const MOST: usize = 20;
 
-/// Those that were kept, and how many there are besides.
-pub fn gaps(finding: &Finding, rows: &mut Rows) -> Result<(), Trouble> {
-    let gaps = &finding.survey.gaps;
+/// Those that were kept, and how many there are besides, of the journal that the word names.
+pub fn gaps(gaps: &Gaps, word: &OsStr, rows: &mut Rows) -> Result<(), Trouble> {
     gaps.kept.iter().try_for_each(|gap| list(gap, rows))?;
     if gaps.more > 0 {
         let more = count(gaps.more, "more gap", "more gaps");
@@ -22,7 +22,7 @@ pub fn gaps(finding: &Finding, rows: &mut Rows) -> Result<(), Trouble> {
     }
     if gaps.are_hidden() {
         rows.entry("To see all of them:")?;
-        let all = typed("verify --all", finding.source.word(), "");
+        let all = typed("verify --all", word, "");
         rows.write(|page| page.command(&all))?;
     }
     Ok(())

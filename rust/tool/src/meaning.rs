@@ -1,0 +1,53 @@
+//! What was found means this, for whoever needs the records.
+
+use crate::survey::Survey;
+use crate::words::grouped;
+use mellansko::{Reason, LONGEST_RECORD};
+
+/// What to compare, where no damage is found, and why.
+pub fn compare(what: &str) -> String {
+    format!(
+        "{what} with what you expect: records cut off at the end, and blocks left out, repeated or \
+         replaced by sound ones, may not show."
+    )
+}
+
+/// Of gaps, of which nothing is handed out, say. One that is a long record alone is no such gap.
+pub fn of_gaps(survey: &Survey, handed_out: &str) -> Option<String> {
+    let long = survey.reasons.contains(&Reason::OverLimit);
+    let gaps = match survey.gaps.number() {
+        1 => "the gap",
+        _ => "the gaps",
+    };
+    (survey.reasons.len() > usize::from(long)).then(|| {
+        format!(
+            "Nothing of {gaps} is {handed_out}, and nobody can tell how many records were written \
+             there. One of them may have been newer than a record before it, and have replaced it, \
+             as new factors or a new start list do. Do not rely on what may have been replaced: \
+             ask for another copy of the journal, or ask whoever wrote it."
+        )
+    })
+}
+
+/// Of records above the limit.
+pub fn of_long_records(survey: &Survey) -> Option<String> {
+    let long = survey.reasons.contains(&Reason::OverLimit);
+    long.then(|| {
+        format!(
+            "A record of more than {} bytes may be sound: this tool does not read it, but the \
+             program that wrote it may.",
+            grouped(LONGEST_RECORD)
+        )
+    })
+}
+
+/// Of an end that is torn, and whose it is.
+pub fn of_torn_end(survey: &Survey, whose: &str) -> Option<String> {
+    survey.torn.map(|_| {
+        format!(
+            "{whose} end is torn: that may be the record that was being written when the power \
+             went. Damage in the last block can look the same, so see whether the last record that \
+             can be read is the one you expect."
+        )
+    })
+}
