@@ -43,6 +43,10 @@ pub enum Command {
         file: OsString,
         new: bool,
     },
+    Mend {
+        bad: OsString,
+        new: OsString,
+    },
 }
 
 pub fn parse(words: impl Iterator<Item = OsString>) -> Result<Command, Trouble> {
@@ -59,10 +63,12 @@ pub fn parse(words: impl Iterator<Item = OsString>) -> Result<Command, Trouble> 
         Some("map") => Given::of("map", help::MAP, &["--blocks", "--color"], rest)?.command(map),
         Some("cat") => Given::of("cat", help::CAT, &[], rest)?.command(cat),
         Some("append") => Given::of("append", help::APPEND, &["--new"], rest)?.command(append),
+        Some("mend") => Given::of("mend", help::MEND, &[], rest)?.command(mend),
         _ if is_help(&first) => help_on(&rest),
         Some("--version" | "-V") => Ok(Command::Version),
         _ => Err(Trouble::Message(format!(
-            "there is no command {}. The commands are verify, dump, map, cat and append: see {}",
+            "there is no command {}. The commands are verify, dump, map, cat, append and mend: \
+             see {}",
             shown(&first),
             tied(&format!("{} --help", me()))
         ))),
@@ -167,4 +173,19 @@ fn append(mut given: Given) -> Result<Command, Trouble> {
     }
     let file = named(&given, file)?;
     Ok(Command::Append { file, new })
+}
+
+fn mend(mut given: Given) -> Result<Command, Trouble> {
+    let [bad, new] = given.only("the bad journal and the new one")?;
+    if bad == "-" {
+        return Err(given.wrong(
+            "the bad journal is to be a file: it has to be kept, since the new one does not show \
+             what was lost",
+        ));
+    }
+    if new == "-" {
+        return Err(given.wrong("the new journal is to be a file"));
+    }
+    let [bad, new] = [named(&given, bad)?, named(&given, new)?];
+    Ok(Command::Mend { bad, new })
 }

@@ -68,8 +68,10 @@ docs/PROOF.md says what, and what not.
   mellansko map FILE        a picture of a journal, block by block
   mellansko cat FILE N      the bytes of the N-th record
   mellansko append FILE     appends standard input to a journal, as one record
+  mellansko mend BAD NEW    all readable records of a bad journal, in a new one
 
-FILE may be - for standard input, except for append. With --help after it, each command says more:
+FILE may be - for standard input, except for append; BAD and NEW may not. Followed by --help, \
+each command says more:
 
     {me} verify --help
 
@@ -219,8 +221,8 @@ mellansko append [--new] FILE
 
 Appends all of standard input to a journal as one record, byte for byte, at the journal's end, and says where it \
 stands. A journal in which something is in doubt is refused and left as it is, since a record after that might not be \
-found again: begin another. What the file holds is never overwritten; if a write fails, what it added is cut off \
-again, and a new file is removed. While one append writes, another is refused.
+found again: begin another. What the file holds is never overwritten; if a write fails, what it added is \
+cut off again, and a new file is removed. While one append writes, another is refused.
 
   --new   begin a new journal; refused if the file is there already
 
@@ -232,4 +234,34 @@ Exit status:
   0   appended
   1   refused, since something in the journal is in doubt
   2   not appended, for another reason
+";
+
+pub const MEND: &str = "\
+mellansko mend BAD NEW
+
+Writes every record that can be read in the journal BAD, in order, into a new journal NEW. Says \
+how many records were kept, and what was left out: the first twenty gaps of BAD, each with its \
+first twenty ranges of bytes in doubt and the reasons. mellansko verify --all BAD lists every one. \
+A torn end is left out too, and so is a record of more than {RECORD} bytes.
+
+Keep BAD, which is only read: NEW does not show that anything was lost, nor where. No damage will \
+be found in it. And what was lost is not in it: a record in a gap may have been newer than one \
+before it, and have replaced it.
+
+NEW is never written over anything that is there. It gets its name only when all of it is on the \
+disk. Until then it is a file in the same folder that is called mellansko-mend-, two numbers and \
+.unfinished, and that is removed if anything fails. If that fails too, it says so. Such a file may \
+be left if the tool is ended halfway; it can be removed.
+
+BAD is a plain file of at most {LOG} bytes. While an append writes to it, it is not mended, and \
+while it is mended, an append to it is refused. What no reader can tell does not show here either; \
+mellansko verify --help lists it.
+
+After -- a name may begin with a dash.
+
+Exit status:
+
+  0   written, and nothing was left out: no damage found in BAD
+  1   written, and something was left out
+  2   not done; if anything is left, it says so
 ";

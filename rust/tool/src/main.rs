@@ -1,5 +1,5 @@
 //! The command-line tool: says what damage a journal shows, lists what is in it, draws it, hands out
-//! a record's bytes, and appends a record.
+//! a record's bytes, appends a record, and puts what can be read of a bad journal into a new one.
 //!
 //! What a journal says is answered by the proved calls alone; here are files, words and colours.
 
@@ -74,8 +74,9 @@ fn run() -> Result<Status, Trouble> {
             colour,
         } => commands::map(&source, blocks, colour, &mut output)?,
         Command::Cat { source, number } => commands::cat(&source, number, &mut output)?,
-        // What it has to say is said by then.
+        // What these have to say is said by then.
         Command::Append { file, new } => return commands::append(&file, new),
+        Command::Mend { bad, new } => return commands::mend(&bad, &new, output),
     };
     output.flush()?;
     Ok(status)

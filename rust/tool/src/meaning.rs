@@ -43,11 +43,14 @@ pub fn of_long_records(survey: &Survey) -> Option<String> {
 
 /// Of an end that is torn, and whose it is.
 pub fn of_torn_end(survey: &Survey, whose: &str) -> Option<String> {
+    let see = match survey.last {
+        Some(_) => ", so see whether the last record that can be read is the one you expect",
+        None => "",
+    };
     survey.torn.map(|_| {
         format!(
             "{whose} end is torn: that may be the record that was being written when the power \
-             went. Damage in the last block can look the same, so see whether the last record that \
-             can be read is the one you expect."
+             went. Damage in the last block can look the same{see}."
         )
     })
 }

@@ -2,9 +2,10 @@
 
 use crate::words::ends_or_turns;
 use crate::wrap::{tied, TIED};
-use std::env;
 use std::ffi::{OsStr, OsString};
 use std::os::unix::ffi::OsStrExt;
+use std::path::{Path, PathBuf};
+use std::{env, iter};
 
 /// The tool by the name that it was called with: the script that starts it says, or the system.
 pub fn me() -> String {
@@ -51,20 +52,43 @@ fn by_bytes(word: &OsStr) -> String {
     format!("$'{bytes}'")
 }
 
+/// The tool, to mend a journal into a new one. Neither name is a dash alone.
+pub fn to_mend(bad: &OsStr, new: &OsStr) -> String {
+    let dash = |name: &OsStr| name.as_bytes().starts_with(b"-");
+    let ended = if dash(bad) || dash(new) { "-- " } else { "" };
+    tied(&format!(
+        "{} mend {ended}{} {}",
+        me(),
+        quoted(bad),
+        quoted(new)
+    ))
+}
+
 /// A name like this one that no file has yet.
 pub fn another(file: &OsStr) -> OsString {
-    let path = std::path::Path::new(file);
-    let name = |number: usize| {
-        let mut name = path.file_stem().unwrap_or(file).to_os_string();
-        name.push(format!("-{number}"));
-        if let Some(extension) = path.extension() {
-            name.push(".");
-            name.push(extension);
-        }
-        path.with_file_name(name)
-    };
-    let free = (2..)
-        .map(name)
-        .find(|path| path.symlink_metadata().is_err());
+    free((2..).map(|number| like(file, &format!("-{number}"))))
+}
+
+/// The same, for what is mended of this one.
+pub fn for_mended(file: &OsStr) -> OsString {
+    let more = (2..).map(|number| like(file, &format!("-mended-{number}")));
+    free(iter::once(like(file, "-mended")).chain(more))
+}
+
+/// The name of a file in the same folder, with this at the end of what comes before the last point.
+fn like(file: &OsStr, end: &str) -> PathBuf {
+    let path = Path::new(file);
+    let mut name = path.file_stem().unwrap_or(file).to_os_string();
+    name.push(end);
+    if let Some(extension) = path.extension() {
+        name.push(".");
+        name.push(extension);
+    }
+    path.with_file_name(name)
+}
+
+/// The first that no file has.
+fn free(mut names: impl Iterator<Item = PathBuf>) -> OsString {
+    let free = names.find(|path| path.symlink_metadata().is_err());
     free.expect("fewer files than numbers").into_os_string()
 }

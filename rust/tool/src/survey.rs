@@ -92,9 +92,20 @@ impl Survey {
         self.marks[first - 1..last].iter_mut().for_each(mark);
     }
 
+    /// Whether nothing in it reads as a record, not even as one that is too long to be read.
+    pub fn may_be_no_journal(&self) -> bool {
+        self.last.is_none() && !self.reasons.contains(&Reason::OverLimit)
+    }
+
     /// How many records can be read.
     pub fn records(&self) -> usize {
         self.last.map_or(0, |last| last.number)
+    }
+
+    /// How many bytes the skipped ranges have, without the torn tail.
+    pub fn skipped(&self) -> usize {
+        let torn = self.torn.map_or(0, |start| self.length - start);
+        self.gaps.bytes() - torn
     }
 
     pub fn blocks(&self) -> usize {

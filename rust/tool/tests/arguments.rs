@@ -8,7 +8,7 @@ use common::{ran, tool};
 use std::ffi::OsStr;
 use std::os::unix::ffi::OsStrExt;
 
-const COMMANDS: [&str; 5] = ["verify", "dump", "map", "cat", "append"];
+const COMMANDS: [&str; 6] = ["verify", "dump", "map", "cat", "append", "mend"];
 
 #[test]
 fn help_comes_on_standard_output_for_the_tool_and_each_command() {
@@ -51,6 +51,7 @@ fn help_names_the_figures_of_the_format() {
         ("dump", &["16 777 216", "262 144"]),
         ("map", &["32 768", "262 144"]),
         ("append", &["16 777 216", "262 144"]),
+        ("mend", &["16 777 216", "262 144"]),
     ] {
         let ran = run!(command, "--help");
         for figure in figures {
@@ -93,10 +94,13 @@ fn no_command_gives_help_as_a_complaint() {
 }
 
 /// Bad arguments, and what the message says of them.
-const BAD: [(&[&str], &[&str]); 45] = [
+const BAD: [(&[&str], &[&str]); 56] = [
     (
         &["vrify", "x"],
-        &["no command vrify", "verify, dump, map, cat and append"],
+        &[
+            "no command vrify",
+            "verify, dump, map, cat, append and mend",
+        ],
     ),
     (&["VERIFY", "x"], &["no command VERIFY"]),
     (&["--verify", "x"], &["no command --verify"]),
@@ -199,6 +203,32 @@ const BAD: [(&[&str], &[&str]); 45] = [
     ),
     (&["append", "-n", "x"], &["append", "no option -n"]),
     (&["append", "-"], &["append", "standard input"]),
+    (&["mend"], &["mend", "bad journal and the new one", "0"]),
+    (
+        &["mend", "x"],
+        &["mend", "bad journal and the new one", "1"],
+    ),
+    (&["mend", "x", "y", "z"], &["mend", "the new one", "3"]),
+    (&["mend", "", "y"], &["mend", "name is empty"]),
+    (&["mend", "x", ""], &["mend", "name is empty"]),
+    (
+        &["mend", "-", "y"],
+        &["mend", "bad journal is to be a file"],
+    ),
+    (
+        &["mend", "--", "-", "y"],
+        &["mend", "bad journal is to be a file"],
+    ),
+    (
+        &["mend", "x", "-"],
+        &["mend", "new journal is to be a file"],
+    ),
+    (&["mend", "--new", "x", "y"], &["mend", "no option --new"]),
+    (&["mend", "-f", "x", "y"], &["mend", "no option -f"]),
+    (
+        &["mend", "--limit", "1", "x", "y"],
+        &["mend", "no option --limit"],
+    ),
 ];
 
 #[test]

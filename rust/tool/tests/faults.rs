@@ -48,6 +48,23 @@ fn a_record_that_does_not_reach_the_disk_is_taken_back() {
     );
 }
 
+/// Where folders can't be flushed, nothing can be asked but that the bytes are on the disk.
+#[test]
+fn a_disk_that_flushes_no_folders_gets_a_journal_too() {
+    let folder = Folder::new("faults-folder");
+    let Some(library) = faults(&folder) else {
+        return;
+    };
+    let new = folder.join("new");
+    // EINVAL and EOPNOTSUPP.
+    for error in ["22", "95"] {
+        let mut command = appending(&library, &["--new"], &new, ("FAIL_FSYNC", "2"));
+        fed(command.env("FAIL_WITH", error), b"mine").done();
+        assert_eq!(fs::read(&new).expect("the journal"), written(&["mine"]));
+        fs::remove_file(&new).expect("the journal");
+    }
+}
+
 #[test]
 fn after_what_another_program_writes_meanwhile_nothing_is_written() {
     let folder = Folder::new("faults-grow");

@@ -185,6 +185,10 @@ fn all_said(file: &Path) -> Vec<Ran> {
     said.push(ran(tool().arg("verify").args([file, file])));
     said.push(ran(tool().args(["dump", "--limit", "262145"]).arg(file)));
     said.push(ran(tool().arg("append").arg(file)));
+    said.push(ran(tool().arg("mend").args([file, file])));
+    let mut mended = file.as_os_str().to_os_string();
+    mended.push(" mended");
+    said.push(ran(tool().arg("mend").arg(file).arg(mended)));
     said.push(ran(tool().arg("append").arg("--new").arg(file)));
     said
 }

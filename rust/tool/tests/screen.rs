@@ -11,15 +11,46 @@ use common::terminal::{is_there, ran_on};
 use common::{ran, tool};
 use reference::log::{BLOCK, HEADER};
 use reference::samples;
-use std::process::Command;
+use std::process::{Command, Stdio};
 
-const HELP: [&[&str]; 6] = [
+const HELP: [&[&str]; 7] = [
     &["--help"],
     &["verify", "--help"],
     &["dump", "--help"],
     &["map", "--help"],
     &["cat", "--help"],
     &["append", "--help"],
+    &["mend", "--help"],
+];
+
+/// What the tool is asked for, where these journals are.
+const WORDS: [&[&str]; 26] = [
+    &["verify", "clean"],
+    &["verify", "damaged"],
+    &["verify", "torn"],
+    &["verify", "mixed"],
+    &["verify", "equal"],
+    &["verify", "no journal"],
+    &["verify", "clean", "damaged", "torn", "missing", "equal"],
+    &["map", "damaged"],
+    &["map", "mixed"],
+    &["cat", "damaged", "999999"],
+    &["cat", "torn", "824"],
+    &["append", "torn"],
+    &["append", "missing"],
+    &["append", "--new", "torn"],
+    &["append", "--new", "no/such/folder/log"],
+    &["dump", "--limit", "262145", "clean"],
+    &["dump", "/dev/zero"],
+    &["dump", "--follow", "/dev/null"],
+    &["dump", "--follow", "-"],
+    &["mend", "missing", "new"],
+    &["mend", "torn", "clean"],
+    &["mend", "torn", "no/such/folder/log"],
+    &["mend", "torn"],
+    &["verify", "--nonsense"],
+    &["nonsense"],
+    &[],
 ];
 
 /// A run of each kind that shows text, each in a folder with the journals that it names.
@@ -30,38 +61,26 @@ fn speakers(folder: &Folder) -> Vec<Command> {
     folder.file("mixed", &mixed_log());
     folder.file("equal", &written(&vec![vec![7; BLOCK - HEADER]; 50]));
     folder.file("no journal", &[b'x'; 100_000]);
-    let words: [&[&str]; 22] = [
-        &["verify", "clean"],
-        &["verify", "damaged"],
-        &["verify", "torn"],
-        &["verify", "mixed"],
-        &["verify", "equal"],
-        &["verify", "no journal"],
-        &["verify", "clean", "damaged", "torn", "missing", "equal"],
-        &["map", "damaged"],
-        &["map", "mixed"],
-        &["cat", "damaged", "999999"],
-        &["cat", "torn", "824"],
-        &["append", "torn"],
-        &["append", "missing"],
-        &["append", "--new", "torn"],
-        &["append", "--new", "no/such/folder/log"],
-        &["dump", "--limit", "262145", "clean"],
-        &["dump", "/dev/zero"],
-        &["dump", "--follow", "/dev/null"],
-        &["dump", "--follow", "-"],
-        &["verify", "--nonsense"],
-        &["nonsense"],
-        &[],
-    ];
     let speaker = |words: &&[&str]| {
         let mut command = tool();
         command.args(*words).current_dir(&**folder);
         command.env("NO_COLOR", "1");
         command
     };
-    let words = words.iter().chain(&HELP);
-    words.map(speaker).collect()
+    let words = WORDS.iter().chain(&HELP);
+    let mended = ["clean", "damaged", "torn", "mixed", "equal", "no journal"];
+    let mended = mended.map(|bad| mending(bad, folder));
+    words.map(speaker).chain(mended).collect()
+}
+
+/// A run that mends a journal, each time that it is run.
+fn mending(bad: &str, folder: &Folder) -> Command {
+    let mut command = Command::new("sh");
+    let script = "rm -f new; exec \"$0\" mend \"$1\" new";
+    command.args(["-c", script, env!("CARGO_BIN_EXE_mellansko"), bad]);
+    command.env("MELLANSKO", "mellansko").env_remove("COLUMNS");
+    command.stdin(Stdio::null()).current_dir(&**folder);
+    command
 }
 
 /// So high that nothing is said again.

@@ -140,6 +140,12 @@ pub fn written<T: AsRef<[u8]>>(records: &[T]) -> Vec<u8> {
     log
 }
 
+/// The log that what was found mends to: its records, as the reference writes them.
+pub fn mended(found: &Found) -> Vec<u8> {
+    let records: Vec<&Vec<u8>> = found.records.iter().map(|(_, bytes)| bytes).collect();
+    written(&records)
+}
+
 /// Appends a record as the reference does.
 pub fn add(log: &mut Vec<u8>, record: &[u8]) {
     let used = log.len();
