@@ -221,7 +221,7 @@ mellansko append [--new] FILE
 
 Appends all of standard input to a journal as one record, byte for byte, at the journal's end, and says where it \
 stands. A journal in which something is in doubt is refused and left as it is, since a record after that might not be \
-found again: begin another. What the file holds is never overwritten; if a write fails, what it added is \
+found again: begin another, or mend it. What the file holds is never overwritten; if a write fails, what it added is \
 cut off again, and a new file is removed. While one append writes, another is refused.
 
   --new   begin a new journal; refused if the file is there already

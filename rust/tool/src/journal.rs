@@ -2,7 +2,7 @@
 
 use crate::fed::Fed;
 use crate::progress::Progress;
-use crate::shell::{another, me, operand, typed};
+use crate::shell::{another, for_mended, me, operand, to_mend, typed};
 use crate::trouble::{note, Trouble};
 use crate::words::{bytes, grouped, short};
 use crate::wrap::tied;
@@ -163,6 +163,11 @@ pub fn read(
 /// What to type where a journal takes no more records.
 pub fn begin_another(file: &OsStr) -> String {
     typed("append --new", &another(file), "")
+}
+
+/// What to type for all records of a journal in doubt that can be read.
+pub fn mend_into_another(file: &OsStr) -> String {
+    to_mend(file, &for_mended(file))
 }
 
 /// Why a proved call refuses a journal or a record, and what to do.

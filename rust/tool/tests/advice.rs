@@ -4,11 +4,11 @@
 mod common;
 
 use common::damage::mixed_log;
-use common::expect::{dumped, longest_log, written, Found};
-use common::files::{left_out, Folder};
+use common::expect::{dumped, longest_log, mended, written, Found};
+use common::files::{left_out, release, Folder};
 use common::random::Random;
 use common::{fed, finish, ran, tool, Ran};
-use reference::log::{fragment, FULL, LAST};
+use reference::log::{fragment, FIRST, FULL, LAST, MIDDLE};
 use reference::samples;
 use std::ffi::{OsStr, OsString};
 use std::fs;
@@ -63,6 +63,22 @@ fn commands(ran: &Ran) -> Vec<&str> {
     lines.filter_map(|line| line.strip_prefix("    ")).collect()
 }
 
+/// The only file in a folder that has none of these names.
+fn path_of_other(folder: &Path, names: &[&OsStr]) -> PathBuf {
+    let files = fs::read_dir(folder).expect("the folder");
+    let files = files.map(|file| file.expect("a file").path());
+    let is_other = |file: &PathBuf| !names.iter().any(|name| file.file_name() == Some(name));
+    let mut others = files.filter(is_other);
+    let other = others.next().expect("another file");
+    assert_eq!(others.next(), None);
+    other
+}
+
+/// What is in it.
+fn only_other(folder: &Path, names: &[&OsStr]) -> Vec<u8> {
+    fs::read(path_of_other(folder, names)).expect("it")
+}
+
 /// The tool by a name of its own, in a folder.
 fn called(name: &OsStr, folder: &Path) -> Command {
     let mut command = Command::new(name);
@@ -92,7 +108,7 @@ fn what_verify_advises_can_be_typed_whatever_the_file_s_name() {
         no_control(ran.text());
         let ran_before = ran.text();
         let commands = commands(&ran);
-        let [dump, before, after, last, new] = commands[..] else {
+        let [dump, before, after, last, mend, new] = commands[..] else {
             panic!("{commands:?}");
         };
         let Some(dump) = typed(dump, &folder, b"") else {
@@ -109,13 +125,13 @@ fn what_verify_advises_can_be_typed_whatever_the_file_s_name() {
             assert_eq!(again.text(), ran_before, "{verify}");
         }
         typed(new, &folder, b"new").expect("a shell").done();
-        let files = fs::read_dir(&*folder).expect("the folder");
-        let files: Vec<PathBuf> = files.map(|file| file.expect("a file").path()).collect();
-        let other = files.iter().find(|file| file.file_name() != Some(name));
-        assert_eq!(
-            fs::read(other.expect("a new file")).expect("it"),
-            written(&[b"new"])
-        );
+        assert_eq!(only_other(&folder, &[name]), written(&[b"new"]));
+        fs::remove_file(path_of_other(&folder, &[name])).expect("it");
+        // Which ends in a doubt, since not all can be mended.
+        let ran = typed(mend, &folder, b"").expect("a shell");
+        assert_eq!(ran.status, Some(1), "{mend}: {}", ran.err);
+        no_control(ran.text());
+        assert!(only_other(&folder, &[name]) == mended(&found), "{mend}");
         assert_eq!(fs::read(folder.join(name)).expect("the old file"), log);
     }
 }
@@ -140,12 +156,14 @@ fn what_append_advises_can_be_typed_and_names_a_file_that_is_not_there() {
             let (_, verify) = lines[2]
                 .split_once("to see what is in doubt: ")
                 .expect("advice");
+            let (_, mend) = lines[3].split_once("is missing: ").expect("advice");
             let Some(verified) = typed(verify, &folder, b"") else {
                 break;
             };
             assert!(verified.text().contains("IN DOUBT"), "{verify}");
             typed(new, &folder, b"new").expect("a shell").done();
-            assert_eq!(folder.names().len(), round + 1, "{new}");
+            assert_eq!(typed(mend, &folder, b"").expect("a shell").status, Some(1));
+            assert_eq!(folder.names().len(), 2 * round + 1, "{new}, {mend}");
         }
     }
 }
@@ -168,6 +186,37 @@ fn to_begin_a_journal_and_to_add_to_it_can_be_typed() {
             let log = fs::read(folder.join(name)).expect("the journal");
             assert_eq!(log, written(&[b"1", b"1"]));
         }
+    }
+}
+
+/// A name that is taken, that of the bad journal too, whatever either is.
+#[test]
+fn to_mend_into_another_file_can_be_typed() {
+    let log = mixed_log();
+    let bytes = mended(&Found::in_log(&log));
+    for (i, name) in NAMES.into_iter().enumerate() {
+        let folder = Folder::new("advice-mend");
+        let bad = OsStr::from_bytes(name);
+        let other = OsStr::from_bytes(NAMES[(i + 3) % NAMES.len()]);
+        folder.file(bad, &log);
+        folder.file(other, b"other");
+        for taken in [bad, other] {
+            let mut command = called(own_name(), &folder);
+            let ran = ran(command.args(["mend", "--"]).arg(bad).arg(taken));
+            no_control(&ran.err);
+            let (_, advice) = ran
+                .err
+                .split_once("To write to another name: ")
+                .expect(&ran.err);
+            let Some(ran) = typed(advice, &folder, b"") else {
+                break;
+            };
+            assert_eq!(ran.status, Some(1), "{advice}: {}", ran.err);
+            assert!(only_other(&folder, &[bad, other]) == bytes, "{advice}");
+            fs::remove_file(path_of_other(&folder, &[bad, other])).expect("it");
+        }
+        assert!(fs::read(folder.join(bad)).expect("the bad journal") == log);
+        assert_eq!(fs::read(folder.join(other)).expect("the other"), b"other");
     }
 }
 
@@ -305,28 +354,41 @@ fn a_journal_that_is_full_is_followed_by_another() {
 /// A log, what is said of it, and what is not.
 type Case = (Vec<u8>, &'static [&'static str], &'static [&'static str]);
 
-fn cases() -> [Case; 7] {
+fn cases() -> [Case; 8] {
     const LOST: &str = "may have been replaced";
     const TORN: &str = "when the power went";
     const WHAT: &str = "is it a journal?";
+    const LONG: &str = "A record of more than 262 144 bytes may be sound";
+    const MEND: &str = "which will not show that anything is missing:     mellansko mend ";
     let orphan = fragment(LAST, b"orphan");
     let sound = fragment(FULL, b"sound");
     let gap = [&sound[..], &orphan, &sound].concat();
     let torn = [&sound[..], &sound[..5]].concat();
     let both = [&gap[..], &sound[..5]].concat();
     let text = b"%PDF-1.4 and more".repeat(9);
+    let first = fragment(FIRST, &[1; 32_761]);
+    let long = [first, fragment(MIDDLE, &[1; 32_761]).repeat(8)].concat();
     [
-        (gap, &[LOST], &[TORN, WHAT, "append"]),
+        (gap, &[LOST, MEND], &[TORN, WHAT, "append"]),
         (
             torn,
-            &[TORN, "begin a new journal", "append --new"],
+            &[TORN, "begin a new journal", "append --new", MEND],
             &[LOST, WHAT],
         ),
-        (both, &[LOST, TORN, "append --new"], &[WHAT]),
-        (text, &[WHAT, "\"%PDF-1.\""], &[LOST, "append", "cat "]),
-        (orphan, &[WHAT, "another copy"], &[LOST, TORN]),
-        (sound[..5].to_vec(), &[WHAT, TORN], &[LOST, "append"]),
+        (both, &[LOST, TORN, "append --new", MEND], &[WHAT]),
+        (
+            text,
+            &[WHAT, "\"%PDF-1.\""],
+            &[LOST, "append", "cat ", "mend"],
+        ),
+        (orphan, &[WHAT, "another copy"], &[LOST, TORN, "mend"]),
+        (
+            sound[..5].to_vec(),
+            &[WHAT, TORN],
+            &[LOST, "append", "mend"],
+        ),
         (vec![0; 100], &[WHAT, "\\x00\\x00"], &[LOST, TORN]),
+        (long, &[LONG], &[WHAT, LOST, TORN, "mend"]),
     ]
 }
 
@@ -345,6 +407,26 @@ fn what_to_do_depends_on_what_was_found() {
         for said in not {
             assert!(!advice.contains(said), "{said:?} is in: {advice}");
         }
+    }
+}
+
+/// What came over a pipe is in no file that could be mended.
+#[test]
+fn of_a_pipe_no_mending_is_advised() {
+    let folder = Folder::new("advice-pipe");
+    let log = mixed_log();
+    let fifo = folder.join("fifo");
+    let made = Command::new("mkfifo").arg(&fifo).status();
+    assert!(made.expect("mkfifo").success());
+    let from_fifo = std::thread::scope(|scope| {
+        scope.spawn(|| fs::write(&fifo, &log).expect("the pipe"));
+        let ran = run!("verify", &fifo);
+        release(&fifo);
+        ran
+    });
+    for ran in [from_fifo, feed!(&log; "verify", "-")] {
+        assert!(ran.text().contains("What to do now"), "{}", ran.text());
+        assert!(!ran.text().contains("mend"), "{}", ran.text());
     }
 }
 

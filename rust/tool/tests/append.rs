@@ -133,13 +133,19 @@ fn a_journal_in_doubt_is_refused_and_left_as_it_is() {
             .expect(&begin)
             .split_once(". After what is in doubt");
         check_verdict(verdict.expect("a verdict").0, &Found::in_log(&log));
-        assert_eq!(
-            said[1..],
-            [
-                format!("mellansko: to begin another journal: mellansko append --new {another}"),
-                format!("mellansko: to see what is in doubt: mellansko verify {verify}"),
-            ]
-        );
+        let mended = in_advice(&folder.join("times-mended"));
+        let mut advice = vec![
+            format!("mellansko: to begin another journal: mellansko append --new {another}"),
+            format!("mellansko: to see what is in doubt: mellansko verify {verify}"),
+        ];
+        // If there are any.
+        if !Found::in_log(&log).records.is_empty() {
+            advice.push(format!(
+                "mellansko: to write all readable records into a new journal, which will not show \
+                 that anything is missing: mellansko mend {verify} {mended}"
+            ));
+        }
+        assert_eq!(said[1..], advice);
         assert!(bytes_of(&file) == log, "{log:x?}");
     }
 }

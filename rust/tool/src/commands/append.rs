@@ -82,6 +82,13 @@ fn tell_doubt(path: &OsStr, survey: &Survey) {
         "to see what is in doubt: {}",
         typed("verify", path, "")
     ));
+    if survey.last.is_some() {
+        note(&format!(
+            "to write all readable records into a new journal, which will not show that anything \
+             is missing: {}",
+            journal::mend_into_another(path)
+        ));
+    }
 }
 
 /// The record is in the file by now: that nobody hears of it does not change that.

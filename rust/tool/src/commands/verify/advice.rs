@@ -2,7 +2,7 @@
 
 use super::{statuses, Finding, Found};
 use crate::gap::Place;
-use crate::journal::{begin_another, Source};
+use crate::journal::{begin_another, mend_into_another, Source};
 use crate::meaning;
 use crate::page::Page;
 use crate::screen::Screen;
@@ -27,15 +27,15 @@ pub fn for_one(finding: &Finding, screen: Screen) -> Page {
     }
     page.empty_row();
     page.prose("What to do now: keep the file as it is.");
-    match survey.last {
-        None => page.prose(&unreadable(finding)),
-        Some(_) => by_case(survey).iter().for_each(|case| page.prose(case)),
+    match survey.may_be_no_journal() {
+        true => page.prose(&unreadable(finding)),
+        false => by_case(survey).iter().for_each(|case| page.prose(case)),
     }
     commands(finding, &mut page);
     page
 }
 
-/// Where no record can be read.
+/// Where it may be no journal at all.
 fn unreadable(finding: &Finding) -> String {
     let then = match finding.survey.torn {
         Some(0) => "If it is one, its first record may have been written just when the power went.",
@@ -48,7 +48,7 @@ fn unreadable(finding: &Finding) -> String {
     )
 }
 
-/// What each kind of doubt means, where some records can be read.
+/// What each kind of doubt means, where it is a journal.
 fn by_case(survey: &Survey) -> Vec<String> {
     let torn = meaning::of_torn_end(survey, "Its");
     let torn = torn.map(|torn| format!("{torn} To go on, begin a new journal."));
@@ -86,7 +86,22 @@ fn commands(finding: &Finding, page: &mut Page) {
             page,
         );
     }
-    if let (Some(_), Some(_), Source::File(path)) = (survey.torn, survey.last, finding.source) {
+    new_journals(finding, page);
+}
+
+/// What can be written now, where some records can be read.
+fn new_journals(finding: &Finding, page: &mut Page) {
+    let (Source::File(path), Some(_)) = (finding.source, finding.survey.last) else {
+        return;
+    };
+    if finding.source.can_be_read_again() {
+        page.prose(
+            "All readable records into a new journal, which will not show that anything is \
+             missing:",
+        );
+        page.command(&mend_into_another(path));
+    }
+    if finding.survey.torn.is_some() {
         page.prose("A new journal, with the record that you type next:");
         page.command(&begin_another(path));
     }
