@@ -190,8 +190,10 @@ enum mellansko_reason {
                                     its next fragment should; the next call answers for that */
     MELLANSKO_ORPHAN = 5,        /* one fragment, which continues a record that was not begun */
     MELLANSKO_UNKNOWN_TYPE = 6,  /* one fragment, of a type that the format does not have */
-    MELLANSKO_OVER_LIMIT = 7     /* a record, up to the end of the fragment that takes it above the
+    MELLANSKO_OVER_LIMIT = 7,    /* a record, up to the end of the fragment that takes it above the
                                     limit; sound fragments of it after that one are orphans */
+    MELLANSKO_EMPTY_START = 8    /* a record that is begun with no bytes, up to the FULL or FIRST
+                                    with which it begins afresh; nothing is lost (13.5) */
 };
 
 /* An end's tail. The end's start is 0 if it is clean. */
@@ -416,8 +418,16 @@ static inline const char *mellansko_reason_text(uint64_t reason)
     case MELLANSKO_ORPHAN: return "a piece of a record whose beginning is missing";
     case MELLANSKO_UNKNOWN_TYPE: return "a piece of a kind that this format does not have";
     case MELLANSKO_OVER_LIMIT: return "a record longer than the limit";
+    case MELLANSKO_EMPTY_START:
+        return "an empty start of a record, which then begins afresh: nothing is lost";
     default: return "a number that is no reason's";
     }
+}
+
+/* Whether something may be lost with the range (13.5): 0 for MELLANSKO_EMPTY_START alone, else 1. */
+static inline int mellansko_reason_is_loss(uint64_t reason)
+{
+    return reason != MELLANSKO_EMPTY_START;
 }
 
 /* A refusal in plain words. */

@@ -24,6 +24,9 @@ pub enum Reason {
     /// A record, up to the end of the fragment that takes it above the limit. Sound fragments of it
     /// after that one are orphans.
     OverLimit = 7,
+    /// A record that is begun with no bytes, up to the FULL or FIRST with which it begins afresh. The
+    /// next answer is for that. Early LevelDB writers left such starts, and nothing is lost.
+    EmptyStart = 8,
 }
 
 impl Reason {
@@ -36,6 +39,7 @@ impl Reason {
         Reason::Orphan,
         Reason::UnknownType,
         Reason::OverLimit,
+        Reason::EmptyStart,
     ];
 
     /// The reason's number, from 1 on.
@@ -55,7 +59,22 @@ impl Reason {
             Reason::Orphan => "orphan",
             Reason::UnknownType => "unknown type",
             Reason::OverLimit => "over the limit",
+            Reason::EmptyStart => "empty start",
         }
+    }
+
+    /// Whether something may be lost with the range: with that of an
+    /// [empty start](Reason::EmptyStart) nothing is, and with every other one something may be.
+    ///
+    /// ```
+    /// use mellansko::Reason;
+    ///
+    /// assert!(Reason::Interrupted.is_loss());
+    /// assert!(!Reason::EmptyStart.is_loss());
+    /// ```
+    #[must_use]
+    pub fn is_loss(self) -> bool {
+        self != Reason::EmptyStart
     }
 }
 
@@ -76,6 +95,9 @@ impl fmt::Display for Reason {
             Reason::Orphan => "a piece of a record whose beginning is missing",
             Reason::UnknownType => "a piece of a kind that this format does not have",
             Reason::OverLimit => "a record longer than the limit",
+            Reason::EmptyStart => {
+                "an empty start of a record, which then begins afresh: nothing is lost"
+            }
         })
     }
 }
