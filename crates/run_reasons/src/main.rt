@@ -1,4 +1,4 @@
-// Runs over the reasons for a skip, 1 to 7, with the limits at the last, and over the asking for bytes. Each place is written out,
+// Runs over the reasons for a skip, 1 to 8, with the limits at 7, and over the asking for bytes. Each place is written out,
 // so that a step can be checked by hand.
 use by_hand::fragment;
 use log_layout::Fragment;
@@ -16,6 +16,8 @@ fn main() {
     checksum(&mut log, &mut record, &mut buffer);
     nothing_open(&mut log, &mut record, &mut buffer);
     record_open(&mut log, &mut record, &mut buffer);
+    empty_start(&mut log, &mut record, &mut buffer);
+    empty_interrupted(&mut log, &mut record, &mut buffer);
     over_the_limit(&mut log, &mut record, &mut buffer);
     bytes_asked_for(&mut log, &mut record, &mut buffer);
 }
@@ -93,6 +95,44 @@ fn record_open(log: &mut LogArray, record: &mut RecordArray, buffer: &mut Buffer
     fragment(log, 84, 5, record, 8, 5);
     report::read(log, 96, 100, buffer);
     report::sums(log, 96, buffer);
+}
+
+fn empty_start(log: &mut LogArray, record: &mut RecordArray, buffer: &mut BufferArray) {
+    report::scenario(
+        b"reason 8, empty start, as an early LevelDB writer left it: afresh with FULL, and with FIRST",
+        log,
+        buffer,
+    );
+    fragment(log, 0, Fragment::FULL, record, 1, 32_754);
+    fragment(log, 32_761, Fragment::FIRST, record, 2, 0);
+    fragment(log, 32_768, Fragment::FULL, record, 2, 1_000);
+    fragment(log, 33_775, Fragment::FULL, record, 3, 31_747);
+    fragment(log, 65_529, Fragment::FIRST, record, 4, 0);
+    fragment(log, 65_536, Fragment::FIRST, record, 4, 32_761);
+    fragment(log, 98_304, Fragment::LAST, record, 5, 7_239);
+    report::read(log, 105_550, 262_144, buffer);
+    report::sums(log, 105_550, buffer);
+}
+
+fn empty_interrupted(log: &mut LogArray, record: &mut RecordArray, buffer: &mut BufferArray) {
+    report::scenario(
+        b"reasons 8 and 4 by what interrupts: FULL after an empty MIDDLE, type 5, FULL after a MIDDLE with bytes, a changed FULL",
+        log,
+        buffer,
+    );
+    fragment(log, 0, Fragment::FIRST, record, 1, 0);
+    fragment(log, 7, Fragment::MIDDLE, record, 2, 0);
+    fragment(log, 14, Fragment::FULL, record, 3, 5);
+    fragment(log, 26, Fragment::FIRST, record, 4, 0);
+    fragment(log, 33, 5, record, 5, 5);
+    fragment(log, 45, Fragment::FIRST, record, 6, 0);
+    fragment(log, 52, Fragment::MIDDLE, record, 7, 5);
+    fragment(log, 64, Fragment::FULL, record, 8, 5);
+    fragment(log, 76, Fragment::FIRST, record, 9, 0);
+    fragment(log, 83, Fragment::FULL, record, 10, 5);
+    report::change(log, 90, 1);
+    report::read(log, 95, 100, buffer);
+    report::sums(log, 95, buffer);
 }
 
 fn over_the_limit(log: &mut LogArray, record: &mut RecordArray, buffer: &mut BufferArray) {
