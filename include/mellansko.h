@@ -28,8 +28,8 @@
  * The calls allocate nothing, share no state, and keep nothing of what they are passed. They take
  * time in proportion to the bytes that they look at. They are for Linux on x86-64.
  *
- * What no reader of this format can always tell (8): whether a log was cut exactly between two
- * records; whether a block was left out, is there twice, or was replaced by another sound one;
+ * What no reader of this format can always tell (8, 13.6): whether a log was cut exactly between
+ * two records; whether a block was left out, is there twice, or was replaced by another sound one;
  * whether bytes with a right checksum are those that were written.
  *
  * `rt staticlib mellansko` makes the archive to link with, target/staticlib/libmellansko.a, and
@@ -179,22 +179,34 @@ enum mellansko_stored {
 };
 
 /*
- * A skip's reason (4.7): why its range can't be trusted. With reasons 1 to 3 all that is left of
- * the block, or of a log that ends sooner, is skipped: it may be the length that is damaged.
+ * A skip's reason (4.7). With any but MELLANSKO_EMPTY_START its range is in doubt: what was written
+ * there can't be trusted, or can't be handed out. With reasons 1 to 3 all that is left of the
+ * block, or of a log that ends sooner, is skipped: it may be the length that is damaged.
  */
 enum mellansko_reason {
     MELLANSKO_BAD_LENGTH = 1,    /* the header's length runs past the end of the block */
     MELLANSKO_BLANK = 2,         /* the header's type and length are both 0 */
     MELLANSKO_CHECKSUM = 3,      /* the header's checksum is not that of its type and data */
-    MELLANSKO_INTERRUPTED = 4,   /* a record that is begun and not finished, up to what stands where
-                                    its next fragment should; the next call answers for that */
+    MELLANSKO_INTERRUPTED = 4,   /* a record that is begun and not finished, and no empty start, up
+                                    to what stands where its next fragment should; the next call
+                                    answers for that */
     MELLANSKO_ORPHAN = 5,        /* one fragment, which continues a record that was not begun */
     MELLANSKO_UNKNOWN_TYPE = 6,  /* one fragment, of a type that the format does not have */
     MELLANSKO_OVER_LIMIT = 7,    /* a record, up to the end of the fragment that takes it above the
                                     limit; sound fragments of it after that one are orphans */
-    MELLANSKO_EMPTY_START = 8    /* a record that is begun with no bytes, up to the FULL or FIRST
-                                    with which it begins afresh; nothing is lost (13.5) */
+    MELLANSKO_EMPTY_START = 8    /* a record that is begun and has no bytes so far, up to a sound
+                                    fragment that begins a record; the next call answers for that.
+                                    Early LevelDB writers began a record again like that (13) */
 };
+
+/*
+ * Whether something may be lost with a skip of this reason: 0 for MELLANSKO_EMPTY_START, and 1 for
+ * any other number. Where it is 0, nothing is, as far as a reader can tell (13.5, 13.6).
+ */
+static inline int mellansko_reason_is_loss(uint64_t reason)
+{
+    return reason != MELLANSKO_EMPTY_START;
+}
 
 /* An end's tail. The end's start is 0 if it is clean. */
 enum mellansko_tail {
@@ -215,10 +227,11 @@ enum mellansko_tail {
  * each later one at the mark that the last one answered, or that its refusal gave back. What the
  * log holds makes no difference: an append at a lower mark writes over records.
  *
- * A log that was read, from a file say, may be appended to at its length if all of it reads with no
- * skip and a clean end. If not, begin another log: a record after what is in doubt may be skipped
- * with it, and one at the start of a torn tail writes over what the tail holds. mellansko_mend
- * begins one with the records that are left.
+ * A log that was read, from a file say, may be appended to at its length if all of it reads as
+ * records, empty starts (MELLANSKO_EMPTY_START) if there are any, and a clean end. If not, begin
+ * another log: a record after what is in doubt may be skipped with it, and one at the start of a
+ * torn tail writes over what the tail holds. mellansko_mend begins one with the records that are
+ * left.
  *
  * The number of bytes added can be worked out (3.7). Let r = 32,768 - mark % 32,768, what is left
  * of the block. If r < 7 there is a trailer first, of p = r zeros, and room for a = 32,761 bytes of
@@ -251,9 +264,10 @@ uint64_t mellansko_append(uint8_t *log, size_t log_len, size_t mark, const uint8
  * skipped range or torn tail, or in a trailer outside of these (6.2). A call at any other place
  * reads a header where there may be none.
  *
- * Do not treat what is skipped or torn as never written. A torn tail may be the record that was
- * being written when the power went. But it may also hold records that were written whole: a
- * damaged length in the last block that runs past the log's end looks the same (8.4).
+ * Do not treat what is torn as never written, nor what is skipped, unless mellansko_reason_is_loss
+ * gives 0 for the reason. A torn tail may be the record that was being written when the power went.
+ * But it may also hold records that were written whole: a damaged length in the last block that
+ * runs past the log's end looks the same (8.4).
  */
 MELLANSKO_KEEP MELLANSKO_NOT_NULL
 uint64_t mellansko_next(const uint8_t *log, size_t log_len, size_t place, size_t limit,
@@ -356,7 +370,7 @@ void mellansko_feed_end(struct mellansko_feed *feed);
  * out to be skipped; no other byte is changed.
  *
  * The feed goes on by itself after an answer. After an end it stays, and answers that end again.
- * What is skipped or torn is not to be treated as never written: see mellansko_next.
+ * What is torn, or skipped with a loss, is not to be treated as never written: see mellansko_next.
  */
 MELLANSKO_KEEP MELLANSKO_NOT_NULL
 uint64_t mellansko_feed_next(struct mellansko_feed *feed, const uint8_t block[MELLANSKO_BLOCK],
@@ -371,7 +385,8 @@ uint64_t mellansko_feed_next(struct mellansko_feed *feed, const uint8_t block[ME
  * Returns the answer's kind:
  *
  *   MELLANSKO_MENDED         mended.length: the fresh log's first so many bytes are the mended log;
- *                            .skipped: how many bytes of the bad log are in ranges skipped
+ *                            .skipped: how many bytes of the bad log are in ranges skipped, without
+ *                            those of empty starts, which count as no loss
  *   MELLANSKO_MEND_REFUSED   refused.number: the first of these that holds, in this order:
  *                            MELLANSKO_LOG_TOO_LONG, of either log, MELLANSKO_LIMIT_TOO_HIGH,
  *                            MELLANSKO_BUFFER_TOO_SHORT, MELLANSKO_NO_ROOM
@@ -419,15 +434,9 @@ static inline const char *mellansko_reason_text(uint64_t reason)
     case MELLANSKO_UNKNOWN_TYPE: return "a piece of a kind that this format does not have";
     case MELLANSKO_OVER_LIMIT: return "a record longer than the limit";
     case MELLANSKO_EMPTY_START:
-        return "an empty start of a record, which then begins afresh: nothing is lost";
+        return "an empty start: a record begun with no bytes, and then begun again";
     default: return "a number that is no reason's";
     }
-}
-
-/* Whether something may be lost with the range (13.5): 0 for MELLANSKO_EMPTY_START alone, else 1. */
-static inline int mellansko_reason_is_loss(uint64_t reason)
-{
-    return reason != MELLANSKO_EMPTY_START;
 }
 
 /* A refusal in plain words. */

@@ -308,6 +308,26 @@ static void answers(void)
     NEXT(50, 10, 5, 5, MELLANSKO_RECORD, 10, 27, 3, MELLANSKO_GATHERED, 0, 27);
 }
 
+/* A record that has no bytes yet, what it is begun afresh with, and what interrupts it. */
+static void empty_starts(void)
+{
+    put(10, 2, 0);
+    put(17, 1, 3);
+    NEXT(50, 10, 3, 3, MELLANSKO_SKIP, 10, 17, MELLANSKO_EMPTY_START, 0, 0, 17);
+    NEXT(50, 10, 2, 2, MELLANSKO_SKIP, 10, 17, MELLANSKO_EMPTY_START, 0, 0, 17);
+    put(17, 2, 3);
+    NEXT(50, 10, 3, 3, MELLANSKO_SKIP, 10, 17, MELLANSKO_EMPTY_START, 0, 0, 17);
+    put(17, 3, 0);
+    put(24, 1, 0);
+    NEXT(50, 10, 3, 3, MELLANSKO_SKIP, 10, 24, MELLANSKO_EMPTY_START, 0, 0, 24);
+    put(17, 5, 3);
+    NEXT(50, 10, 3, 3, MELLANSKO_SKIP, 10, 17, MELLANSKO_INTERRUPTED, 0, 0, 17);
+    memset(now.log + 17, 0, 7);
+    NEXT(50, 10, 3, 3, MELLANSKO_SKIP, 10, 17, MELLANSKO_INTERRUPTED, 0, 0, 17);
+    put(17, 1, 3);
+    NEXT(26, 10, 3, 3, MELLANSKO_END, MELLANSKO_TORN, 10, 0, 0, 0, 10);
+}
+
 /* Which word of a feed a name stands for, by a feed whose words are their own numbers. */
 static void feed_names(void)
 {
@@ -352,6 +372,21 @@ static void feeding(void)
     FEED(all, 26, 26, 1, 0, 0, 0, 0, 7, 8);
 }
 
+/* An empty start is certain when all of the fragment has come with which the record begins. */
+static void fed_empty_start(void)
+{
+    put(10, 2, 0);
+    put(17, 1, 2);
+    BEGIN(3, MELLANSKO_BEGUN);
+    TAKE(10, 15, MELLANSKO_TAKEN, 15);
+    FEED_NEXT(3, 0, 0, MELLANSKO_NOT_YET);
+    FEED(3, 7, 15, 0, 1);
+    TAKE(25, 1, MELLANSKO_TAKEN, 1);
+    FEED_NEXT(3, 0, 0, MELLANSKO_SKIP, 0, 7, MELLANSKO_EMPTY_START, 0, 0, 7);
+    FEED(3, 7, 16);
+    FEED_NEXT(3, 0, 2, MELLANSKO_RECORD, 7, 16, 2, MELLANSKO_GATHERED, 0, 16);
+}
+
 /* A torn tail, and a piece that is longer than a block. */
 static void fed_to_the_end(void)
 {
@@ -391,22 +426,26 @@ static void refused_feeds(void)
     FEED(limit, 0, 9, 0, 2);
 }
 
-/* An orphan, a record of one fragment, one of two, and a torn tail; and what becomes of them. */
+/*
+ * An orphan, a record of one fragment, an empty start, which is not counted, a record of two, and a
+ * torn tail; and what becomes of them.
+ */
 static void mending(void)
 {
     const uint8_t *both = now.log + 1000, *last = both + HEADER + 5;
     put(0, 3, 1);
     put(8, 1, 5);
-    put(20, 2, LAST_MENDED);
-    put(30, 4, 0);
-    put(37, 2, 3);
+    put(20, 2, 0);
+    put(27, 2, LAST_MENDED);
+    put(37, 4, 0);
+    put(44, 2, 3);
     put(1000, 1, 5);
     put(1000 + HEADER + 5, 1, LAST_MENDED);
     /* So that what is gathered there shows. */
     memset(now.buffer, 0xA5, 20);
-    MEND(47, 47, 9, 9, both, MELLANSKO_MENDED, 22, 8);
-    MEND(47, 22, 5, 20, both, MELLANSKO_MENDED, 22, 8);
-    MEND(47, 47, 4, 4, last, MELLANSKO_MENDED, 10, 8 + 12);
+    MEND(54, 54, 9, 9, both, MELLANSKO_MENDED, 22, 8);
+    MEND(54, 22, 5, 20, both, MELLANSKO_MENDED, 22, 8);
+    MEND(54, 54, 4, 4, last, MELLANSKO_MENDED, 10, 8 + 12);
     MEND(0, 0, 0, 0, both, MELLANSKO_MENDED, 0, 0);
 }
 
@@ -415,16 +454,16 @@ static void refused_mendings(void)
 {
     const size_t log = MELLANSKO_LONGEST_LOG, limit = MELLANSKO_LONGEST_RECORD;
     MEND_REFUSED(log + 1, 0, limit + 1, 0, MELLANSKO_LOG_TOO_LONG);
-    MEND_REFUSED(47, log + 1, limit + 1, 0, MELLANSKO_LOG_TOO_LONG);
-    MEND_REFUSED(47, log + 1, 9, 9, MELLANSKO_LOG_TOO_LONG);
-    MEND_REFUSED(47, 0, limit + 1, 0, MELLANSKO_LIMIT_TOO_HIGH);
-    MEND_REFUSED(47, 47, limit + 1, limit + 1, MELLANSKO_LIMIT_TOO_HIGH);
-    MEND_REFUSED(47, 0, 9, 8, MELLANSKO_BUFFER_TOO_SHORT);
-    MEND_REFUSED(47, 47, 9, 8, MELLANSKO_BUFFER_TOO_SHORT);
+    MEND_REFUSED(54, log + 1, limit + 1, 0, MELLANSKO_LOG_TOO_LONG);
+    MEND_REFUSED(54, log + 1, 9, 9, MELLANSKO_LOG_TOO_LONG);
+    MEND_REFUSED(54, 0, limit + 1, 0, MELLANSKO_LIMIT_TOO_HIGH);
+    MEND_REFUSED(54, 54, limit + 1, limit + 1, MELLANSKO_LIMIT_TOO_HIGH);
+    MEND_REFUSED(54, 0, 9, 8, MELLANSKO_BUFFER_TOO_SHORT);
+    MEND_REFUSED(54, 54, 9, 8, MELLANSKO_BUFFER_TOO_SHORT);
     memset(now.buffer, 0xA5, 20);
-    MEND_REFUSED(47, 21, 9, 9, MELLANSKO_NO_ROOM);
-    MEND_REFUSED(47, 0, 9, 9, MELLANSKO_NO_ROOM);
-    MEND(47, 22, 9, 9, now.log + 1000, MELLANSKO_MENDED, 22, 8);
+    MEND_REFUSED(54, 21, 9, 9, MELLANSKO_NO_ROOM);
+    MEND_REFUSED(54, 0, 9, 9, MELLANSKO_NO_ROOM);
+    MEND(54, 22, 9, 9, now.log + 1000, MELLANSKO_MENDED, 22, 8);
     memset(now.log, 0, sizeof now.log);
     MEND_REFUSED(log + 1, log, limit, limit, MELLANSKO_LOG_TOO_LONG);
     MEND(log, log, limit, limit, now.log, MELLANSKO_MENDED, 0, log);
@@ -444,8 +483,10 @@ int main(void)
     refused_appends();
     refused_readings();
     answers();
+    empty_starts();
     feed_names();
     feeding();
+    fed_empty_start();
     fed_to_the_end();
     refused_feeds();
     mending();

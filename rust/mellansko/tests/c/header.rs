@@ -29,7 +29,7 @@ fn its_texts_are_those_of_the_rust_crate() {
     let source = folder.file(
         "texts.c",
         "#include <stdio.h>\n#include \"mellansko.h\"\nint main(void) {\n\
-         for (int i = 0; i <= 8; i++) puts(mellansko_reason_text((uint64_t)i));\n\
+         for (int i = 0; i <= 9; i++) puts(mellansko_reason_text((uint64_t)i));\n\
          for (int i = 0; i <= 21; i++) puts(mellansko_refusal_text((uint64_t)i));\n\
          puts(mellansko_reason_text(UINT64_MAX));\n\
          puts(mellansko_refusal_text(((uint64_t)1 << 32) + 1));\nreturn 0;\n}\n",
@@ -38,9 +38,9 @@ fn its_texts_are_those_of_the_rust_crate() {
         "a number that is no reason's",
         "a number that is no refusal's",
     ];
-    assert_eq!((Reason::ALL.len(), Condition::ALL.len()), (7, 7));
+    assert_eq!((Reason::ALL.len(), Condition::ALL.len()), (8, 7));
     let mut lines = vec![none.to_string()];
-    lines.extend((1..=7).map(reason_text));
+    lines.extend((1..=8).map(reason_text));
     lines.push(none.to_string());
     lines.extend((0..=21).map(|number| match number {
         1..=6 | 20 => refusal_text(number),
@@ -50,6 +50,29 @@ fn its_texts_are_those_of_the_rust_crate() {
     for way in folder.there(&[C, CPP]) {
         let printed = folder.run(way, &source);
         assert_eq!(printed.lines().collect::<Vec<_>>(), lines, "{way:?}");
+    }
+}
+
+/// Whether a reason is a loss; a number that is no reason's is one, to be on the safe side.
+#[test]
+fn its_losses_are_those_of_the_rust_crate() {
+    let folder = Folder::new("losses");
+    let source = folder.file(
+        "losses.c",
+        "#include <stdio.h>\n#include \"mellansko.h\"\nint main(void) {\n\
+         for (int i = 0; i <= 20; i++) printf(\"%d\", mellansko_reason_is_loss((uint64_t)i));\n\
+         printf(\"%d\", mellansko_reason_is_loss(((uint64_t)1 << 32) + 8));\n\
+         printf(\"%d\", mellansko_reason_is_loss(UINT64_MAX));\nreturn 0;\n}\n",
+    );
+    let is_loss = |number: u8| {
+        let mut all = Reason::ALL.iter();
+        let reason = all.find(|reason| reason.number() == number);
+        reason.is_none_or(|reason| reason.is_loss())
+    };
+    let known = (0..=20).map(is_loss).chain([true, true]);
+    let digits: String = known.map(|loss| if loss { '1' } else { '0' }).collect();
+    for way in folder.there(&[C, CLANG, CPP]) {
+        assert_eq!(folder.run(way, &source), digits, "{way:?}");
     }
 }
 
