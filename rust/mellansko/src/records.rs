@@ -5,9 +5,10 @@ use std::borrow::Cow;
 use std::error::Error;
 use std::fmt;
 
-/// All records of a log that is whole, in order: of one that reads with no skip and a clean end. If
-/// anything in it is in doubt there are none, and the error says what. It is for a program that can't
-/// use a part of what was written, as one that loads a table.
+/// All records of a log that is whole, in order: of one that reads with a clean end and no skip, but
+/// for [empty starts](crate::Reason::EmptyStart). If anything in it is in doubt there are none, and the
+/// error says what. It is for a program that can't use a part of what was written, as one that loads a
+/// table.
 ///
 /// To a log that is whole a record can be appended, at its length.
 ///
@@ -29,10 +30,24 @@ use std::fmt;
 /// # Ok::<(), Box<dyn std::error::Error>>(())
 /// ```
 ///
+/// With an empty start, as early LevelDB writers left them, a log is whole too:
+///
+/// ```
+/// let mut log = vec![0; 40_000];
+/// // Of the block 7 bytes are left, and a record is begun there with none of its own.
+/// let mark = mellansko::append(&mut log, 0, &[1; 32_754])?;
+/// log[mark..mark + 7].copy_from_slice(&[0x64, 0x51, 0xd0, 0xe9, 0, 0, 2]);
+/// // In the next block it is begun again.
+/// let mark = mellansko::append(&mut log, mark + 7, b"LW11 0.8412")?;
+/// let records = mellansko::records(&log[..mark])?;
+/// assert_eq!(records, [&[1; 32_754][..], b"LW11 0.8412"]);
+/// # Ok::<(), Box<dyn std::error::Error>>(())
+/// ```
+///
 /// # Errors
 ///
 /// [`NotWhole::Refused`] if the log has more than [`LONGEST_LOG`](crate::LONGEST_LOG) bytes, and
-/// [`NotWhole::InDoubt`] if a range of it is skipped or its tail is torn.
+/// [`NotWhole::InDoubt`] if a range of it is skipped that is no empty start, or its tail is torn.
 pub fn records(log: &[u8]) -> Result<Vec<Cow<'_, [u8]>>, NotWhole> {
     records_with_limit(log, LONGEST_RECORD)
 }
@@ -60,7 +75,8 @@ pub fn records_with_limit(log: &[u8], limit: usize) -> Result<Vec<Cow<'_, [u8]>>
     for answer in Reading::with_limit(log, limit)? {
         match answer {
             Answer::Record { bytes, .. } => records.push(bytes),
-            Answer::Skip(skip) => skips.push(skip),
+            Answer::Skip(skip) if skip.reason.is_loss() => skips.push(skip),
+            Answer::Skip(_) => {}
             Answer::End(Tail::Clean) if skips.is_empty() => return Ok(records),
             Answer::End(tail) => return Err(NotWhole::InDoubt(Doubt { skips, tail })),
         }
@@ -83,7 +99,8 @@ pub enum NotWhole {
 #[non_exhaustive]
 #[must_use = "a part of the log is in doubt"]
 pub struct Doubt {
-    /// Every range that is skipped, in order.
+    /// Every range in doubt, in order. An [empty start](crate::Reason::EmptyStart) is skipped too, but
+    /// is [no loss](crate::Reason::is_loss): it is not among them.
     pub skips: Vec<Skip>,
     /// How the log ends. If [torn](Tail::Torn), all from there on is in doubt as well.
     pub tail: Tail,

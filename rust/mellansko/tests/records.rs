@@ -3,11 +3,11 @@
 mod expected;
 mod strict;
 
-use mellansko::{records, records_with_limit, NotWhole, Reason};
+use mellansko::{records, records_with_limit, NotWhole, Reason, Skip, Tail};
 use reference::log::{
     self, append, fragment, Appended, BLOCK, HEADER, LONGEST_LOG, LONGEST_RECORD,
 };
-use reference::log::{FIRST, FULL, LAST};
+use reference::log::{FIRST, FULL, LAST, MIDDLE};
 use strict::Strict;
 
 /// What the reference answers up to the end, with the highest limit.
@@ -87,6 +87,63 @@ fn on_records_above_the_limit() {
     assert_eq!(reasons, [Reason::OverLimit; 2]);
 }
 
+/// Logs of early writers, where a record begins afresh with a FULL or with a FIRST. They are whole,
+/// and can be appended to.
+#[test]
+fn on_logs_of_early_writers() {
+    let before = vec![1; BLOCK - 2 * HEADER];
+    for length in [0, 1_000, BLOCK - HEADER, 40_000] {
+        let record = vec![2; length];
+        let begun = fragment(FIRST, b"");
+        let mut log = [written(&[&before]), begun, written(&[&record])].concat();
+        assert_eq!(log[BLOCK + 6], if length < BLOCK { FULL } else { FIRST });
+        assert!(strict::of(records(&log)) == Ok(vec![before.clone(), record.clone()]));
+        assert!(strict::of(records(&log)) == by_reference(&log, LONGEST_RECORD));
+        let mark = log.len();
+        log.resize(mark + 50, 0);
+        let end = mellansko::append(&mut log, mark, b"LW12").expect("room for it");
+        let all = vec![before.clone(), record, b"LW12".to_vec()];
+        assert!(strict::of(records(&log[..end])) == Ok(all));
+    }
+}
+
+/// What is in doubt in a log of these fragments, by the crate and by the reference; nothing if there
+/// are records.
+fn doubt(fragments: &[&[u8]]) -> Option<(Vec<Skip>, Tail)> {
+    let log = fragments.concat();
+    assert_eq!(
+        strict::of(records(&log)),
+        by_reference(&log, LONGEST_RECORD)
+    );
+    match records(&log) {
+        Ok(_) => None,
+        Err(NotWhole::InDoubt(doubt)) => Some((doubt.skips, doubt.tail)),
+        Err(refused) => panic!("{refused}"),
+    }
+}
+
+/// What is in doubt beside empty starts is listed, and no empty start is.
+#[test]
+fn on_empty_starts_and_what_is_in_doubt() {
+    let [begun, middle, full, orphan, unknown] =
+        [FIRST, MIDDLE, FULL, LAST, 5].map(|kind| fragment(kind, b""));
+    let skip = |start, end, reason| Skip { start, end, reason };
+    assert_eq!(doubt(&[&begun, &full]), None);
+    assert_eq!(doubt(&[&begun, &middle, &begun, &begun, &full]), None);
+    assert_eq!(doubt(&[&begun, &begun]), Some((vec![], Tail::Torn(7))));
+    let skips = vec![skip(14, 21, Reason::Orphan)];
+    let log = [&begun[..], &full, &orphan, &begun, &full];
+    assert_eq!(doubt(&log), Some((skips, Tail::Clean)));
+    let last = skip(21, 28, Reason::UnknownType);
+    let skips = vec![skip(0, 7, Reason::Orphan), last];
+    let log = [&orphan[..], &begun, &full, &unknown, &begun, &begun];
+    assert_eq!(doubt(&log), Some((skips, Tail::Torn(35))));
+    // If anything else interrupts it, it is no empty start.
+    let last = skip(7, 14, Reason::UnknownType);
+    let skips = vec![skip(0, 7, Reason::Interrupted), last];
+    assert_eq!(doubt(&[&begun, &unknown]), Some((skips, Tail::Clean)));
+}
+
 #[test]
 fn on_what_is_refused() {
     let bytes = vec![0; LONGEST_LOG + 1];
@@ -120,6 +177,10 @@ fn on_what_no_reader_can_tell() {
     let (front, back) = (written(&[&ours]), written(&[&older]));
     let mixed = [&ours[..BLOCK - HEADER], &older[BLOCK - HEADER..]].concat();
     assert!(whole(&[&front[..BLOCK], &back[BLOCK..]].concat()) == [mixed]);
+    // An empty start whose record went with its block (§13.6).
+    let short = &one[HEADER..];
+    let log = written(&[short, two, three]);
+    assert!(whole(&[&log[..BLOCK], &log[2 * BLOCK..]].concat()) == [short, three]);
     // Made with a right checksum.
     assert!(whole(&fragment(FULL, b"made up")) == [b"made up"]);
 }

@@ -1,8 +1,8 @@
 //! The words for people, as they are to be read: beside the numbers and names of docs/FORMAT.md
-//! (§4.7, §5.1, §11.11, §12.5).
+//! (§4.7, §5.1, §11.11, §12.5, §13.5).
 
 use mellansko::{records, records_with_limit, Condition, Reason, Refusal, Skip, Tail};
-use reference::log::{fragment, FULL, LAST};
+use reference::log::{fragment, FIRST, FULL, LAST};
 
 #[test]
 fn of_the_reasons() {
@@ -26,10 +26,15 @@ fn of_the_reasons() {
             "a piece of a kind that this format does not have",
         ),
         ("over the limit", "a record longer than the limit"),
+        (
+            "empty start",
+            "an empty start: a record begun with no bytes, and then begun again",
+        ),
     ];
     assert_eq!(Reason::ALL.len(), words.len());
     for ((reason, (name, words)), number) in Reason::ALL.iter().zip(words).zip(1..) {
         assert_eq!((reason.number(), reason.name()), (number, name));
+        assert_eq!(reason.is_loss(), number != 8);
         assert_eq!(reason.to_string(), words);
         let (start, end, reason) = (7, 1_234, *reason);
         let skip = Skip { start, end, reason };
@@ -85,6 +90,14 @@ fn of_what_is_not_whole() {
         format!("{first}; in doubt in 2 more ranges; torn from 21 on")
     );
     assert_eq!(said(&[&orphan, torn]), format!("{first}; torn from 7 on"));
+    // An empty start is neither the first range in doubt nor one more.
+    let begun = fragment(FIRST, b"");
+    let full = fragment(FULL, b"");
+    assert_eq!(
+        said(&[&begun, &full, &orphan, &begun, &full, &begun, &full]),
+        format!("the log is in doubt from 14 to 21: {words}")
+    );
+    assert_eq!(said(&[&begun, &full, torn]), "the log is torn from 14 on");
     assert_eq!(said(&[torn]), "the log is torn from 0 on");
     let refused = records_with_limit(&[], 262_145).unwrap_err();
     let words = "the log was not read: the limit is above 262144 bytes";

@@ -66,6 +66,7 @@ fn reason_number(reason: Reason) -> u8 {
         Reason::Orphan => 5,
         Reason::UnknownType => 6,
         Reason::OverLimit => 7,
+        Reason::EmptyStart => 8,
         _ => panic!("the format does not have {reason:?}"),
     };
     assert_eq!(reason.number(), number);

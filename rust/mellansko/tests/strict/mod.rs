@@ -5,7 +5,8 @@ use mellansko::{Next, NotWhole};
 use reference::log;
 use std::borrow::Cow;
 
-/// All records, or all that is in doubt: skips in order and then a torn end, or the refusal.
+/// All records, or all that is in doubt: skips in order, without empty starts, and then a torn end; or
+/// the refusal.
 pub type Strict = Result<Vec<Vec<u8>>, Vec<log::Next>>;
 
 /// Of the reference's answers, each with a record's bytes.
@@ -15,6 +16,8 @@ pub fn of_answers(answers: &[(log::Next, Vec<u8>)]) -> Strict {
         match answer {
             log::Next::Record { .. } => records.push(bytes.clone()),
             log::Next::End(log::Tail::Clean) => {}
+            // Nothing is in doubt there (docs/FORMAT.md, §13.5).
+            log::Next::Skip { reason: 8, .. } => {}
             _ => doubts.push(*answer),
         }
     }
