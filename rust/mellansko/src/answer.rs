@@ -12,7 +12,7 @@ use std::fmt;
 pub enum Next {
     /// A record, all of whose fragments are sound.
     Record(Record),
-    /// A range in doubt.
+    /// A range that is skipped: in doubt, unless its reason is [no loss](Reason::is_loss).
     Skip(Skip),
     /// The log's end: there is nothing after it.
     End(Tail),
@@ -82,16 +82,16 @@ impl Record {
     }
 }
 
-/// A range that is skipped, since its bytes can't be trusted. A program that needs all that was
-/// written must not go on as if they had never been there.
+/// A range that is skipped. Unless its reason is [no loss](Reason::is_loss) it is in doubt: a program
+/// that needs all that was written must not go on as if its bytes had never been there.
 #[derive(Clone, Copy, Debug, PartialEq, Eq, Hash)]
-#[must_use = "a part of the log is in doubt"]
+#[must_use = "a part of the log may be in doubt"]
 pub struct Skip {
     /// Where the range starts.
     pub start: usize,
     /// Where it ends, exclusive.
     pub end: usize,
-    /// Why it can't be trusted.
+    /// Why it is skipped.
     pub reason: Reason,
 }
 

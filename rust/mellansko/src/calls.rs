@@ -7,11 +7,12 @@ use crate::{meaning, Next, Refusal};
 /// The bytes outside the stretch between the two keep their values.
 ///
 /// The first record is appended at mark 0, each later one at the mark that the last one gave. To a
-/// log that was read, from a file say, a record is appended at its length, if all of it reads with
-/// no skip and a clean end, as [`records`](crate::records) shows. If not, begin another log: a record
-/// after what is in doubt may be skipped with it, and one over it destroys what may be left there.
-/// [`mend`](crate::mend) begins one with the records that are left. What the log holds makes no
-/// difference to the call: one at a lower mark writes over records.
+/// log that was read, from a file say, a record is appended at its length, if nothing in it is in
+/// doubt, as [`records`](crate::records) shows: all of it reads as records,
+/// [empty starts](crate::Reason::EmptyStart) if there are any, and a clean end. If not, begin another
+/// log: a record after what is in doubt may be skipped with it, and one over it destroys what may be
+/// left there. [`mend`](crate::mend) begins one with the records that are left. What the log holds
+/// makes no difference to the call: one at a lower mark writes over records.
 ///
 /// ```
 /// let mut log = [0xff; 64];

@@ -31,7 +31,8 @@ use std::fmt;
 /// for answer in feed.push(first)? {
 ///     match answer {
 ///         Answer::Record { bytes, .. } => assert_eq!(*bytes, *b"LW10-1 0.9137"),
-///         Answer::Skip(skip) => panic!("in doubt: {skip}"),
+///         Answer::Skip(skip) if skip.reason.is_loss() => panic!("in doubt: {skip}"),
+///         Answer::Skip(_) => {}
 ///         Answer::End(_) => unreachable!("it is not announced"),
 ///     }
 /// }
@@ -146,7 +147,8 @@ impl Feed {
     ///         match answer {
     ///             // The bytes are lent until the next call: nothing is copied.
     ///             Answer::Record { record, bytes } => println!("{}: {bytes:?}", record.start),
-    ///             Answer::Skip(skip) => println!("in doubt: {skip}"),
+    ///             Answer::Skip(skip) if skip.reason.is_loss() => println!("in doubt: {skip}"),
+    ///             Answer::Skip(skip) => println!("skipped: {skip}"),
     ///             Answer::End(tail) => println!("the end: {tail}"),
     ///         }
     ///     }

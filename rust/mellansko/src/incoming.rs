@@ -27,7 +27,8 @@ use std::iter::FusedIterator;
 /// while let Some(answer) = incoming.advance()? {
 ///     match answer {
 ///         Answer::Record { record, bytes } => println!("record at {}: {bytes:?}", record.start),
-///         Answer::Skip(skip) => println!("in doubt: {skip}"),
+///         Answer::Skip(skip) if skip.reason.is_loss() => println!("in doubt: {skip}"),
+///         Answer::Skip(skip) => println!("skipped: {skip}"),
 ///         Answer::End(tail) => println!("the end: {tail}"),
 ///     }
 /// }

@@ -24,8 +24,9 @@
 //! ```
 //!
 //! [`Reading`] is the way to see all that is in a log, damaged or not. It goes from the first byte to
-//! the end, and says which bytes are records, which are in doubt and why, and where a torn tail
-//! starts; what is left are trailers, up to six bytes that fill up a block:
+//! the end, and says which bytes are records, which are skipped and why, and where a torn tail starts;
+//! what is left are trailers, up to six bytes that fill up a block. What is skipped is in doubt, unless
+//! its reason is [no loss](Reason::is_loss):
 //!
 //! ```
 //! use mellansko::{Answer, Reading};
@@ -35,7 +36,8 @@
 //! for answer in Reading::of(&log)? {
 //!     match answer {
 //!         Answer::Record { record, bytes } => println!("{} to {}: {bytes:?}", record.start, record.end),
-//!         Answer::Skip(skip) => println!("in doubt: {skip}"),
+//!         Answer::Skip(skip) if skip.reason.is_loss() => println!("in doubt: {skip}"),
+//!         Answer::Skip(skip) => println!("skipped: {skip}"),
 //!         Answer::End(tail) => println!("the end: {tail}"),
 //!     }
 //! }
@@ -54,7 +56,8 @@
 //! while let Some(answer) = incoming.advance()? {
 //!     match answer {
 //!         Answer::Record { record, bytes } => println!("record at {}: {bytes:?}", record.start),
-//!         Answer::Skip(skip) => println!("in doubt: {skip}"),
+//!         Answer::Skip(skip) if skip.reason.is_loss() => println!("in doubt: {skip}"),
+//!         Answer::Skip(skip) => println!("skipped: {skip}"),
 //!         Answer::End(tail) => println!("the end: {tail}"),
 //!     }
 //! }
@@ -111,7 +114,7 @@
 //! # What no reader of this format can tell
 //!
 //! A piece of a record does not say which one it belongs to, nor a record which number it has. So in
-//! each of these cases a log may read as whole (`docs/FORMAT.md`, §8):
+//! each of these cases a log may read as whole (`docs/FORMAT.md`, §8 and §13.6):
 //!
 //! - It was cut exactly between two records: those after the cut are missing.
 //! - Blocks were left out, are there twice, or were replaced by other sound ones, of an older journal

@@ -9,8 +9,9 @@ use crate::{meaning, Refusal};
 pub struct Mended {
     /// How many bytes the mended log has: the fresh slice's first.
     pub length: usize,
-    /// How many bytes of the bad log are in the ranges that were skipped, all together. Those of a
-    /// torn tail are not among them, so this may be 0 although something was lost.
+    /// How many bytes of the bad log are in the ranges that were skipped, all together, but for
+    /// [empty starts](crate::Reason::EmptyStart), which are [no loss](crate::Reason::is_loss). Those of
+    /// a torn tail are not among them, so this may be 0 although something was lost.
     pub skipped: usize,
 }
 
@@ -27,9 +28,9 @@ pub struct Mended {
 /// nothing. So a record may be appended to it at its length.
 ///
 /// A mended log does not show that anything was lost, nor where. Where something is missing, though
-/// not what, is said by the [`Skip`](crate::Skip)s and the [`Tail`](crate::Tail) of a reading of
-/// the bad log, as far as a reader [can tell](crate#what-no-reader-of-this-format-can-tell). So the
-/// bad log is worth keeping.
+/// not what, is said by the [`Skip`](crate::Skip)s that are [a loss](crate::Reason::is_loss) and the
+/// [`Tail`](crate::Tail) of a reading of the bad log, as far as a reader
+/// [can tell](crate#what-no-reader-of-this-format-can-tell). So the bad log is worth keeping.
 ///
 /// ```
 /// use mellansko::{mend, Mended, LONGEST_RECORD};

@@ -67,7 +67,7 @@ pub enum Answer<'a> {
         /// What it is.
         bytes: Cow<'a, [u8]>,
     },
-    /// A range in doubt.
+    /// A range that is skipped: in doubt, unless its reason is [no loss](crate::Reason::is_loss).
     Skip(Skip),
     /// The log's end, which is the last answer.
     End(Tail),
@@ -136,7 +136,8 @@ impl<'log> Reading<'log> {
     /// while let Some(answer) = reading.advance() {
     ///     match answer {
     ///         Answer::Record { bytes, .. } => bytes.iter().for_each(|&byte| sum += u32::from(byte)),
-    ///         Answer::Skip(skip) => panic!("the sum would be of a part: {skip}"),
+    ///         Answer::Skip(skip) if skip.reason.is_loss() => panic!("the sum would be of a part: {skip}"),
+    ///         Answer::Skip(_) => {}
     ///         Answer::End(Tail::Clean) => {}
     ///         Answer::End(tail) => panic!("the sum would be of a part: {tail}"),
     ///     }

@@ -14,8 +14,8 @@ pub enum Reason {
     Blank = 2,
     /// The header's checksum is not that of its type and data.
     Checksum = 3,
-    /// A record that is begun and not finished, up to what stands where its next fragment should.
-    /// The next answer is for that.
+    /// A record that is begun and not finished, and no empty start, up to what stands where its next
+    /// fragment should. The next answer is for that.
     Interrupted = 4,
     /// One fragment, which continues a record that is not begun.
     Orphan = 5,
@@ -24,8 +24,9 @@ pub enum Reason {
     /// A record, up to the end of the fragment that takes it above the limit. Sound fragments of it
     /// after that one are orphans.
     OverLimit = 7,
-    /// A record that is begun with no bytes, up to the FULL or FIRST with which it begins afresh. The
-    /// next answer is for that. Early LevelDB writers left such starts, and nothing is lost.
+    /// A record that is begun and has no bytes so far, up to a sound fragment that begins a record.
+    /// The next answer is for that. Early LevelDB writers began a record again like that, where
+    /// exactly 7 bytes were left in a block (`docs/FORMAT.md`, §13). It is [no loss](Reason::is_loss).
     EmptyStart = 8,
 }
 
@@ -63,14 +64,25 @@ impl Reason {
         }
     }
 
-    /// Whether something may be lost with the range: with that of an
-    /// [empty start](Reason::EmptyStart) nothing is, and with every other one something may be.
+    /// Whether something may be lost with the range, which is then in doubt. With an
+    /// [empty start](Reason::EmptyStart) nothing is, as far as a reader
+    /// [can tell](crate#what-no-reader-of-this-format-can-tell); with every other range something
+    /// may be.
     ///
     /// ```
-    /// use mellansko::Reason;
+    /// use mellansko::{Answer, Reading, Reason};
     ///
-    /// assert!(Reason::Interrupted.is_loss());
-    /// assert!(!Reason::EmptyStart.is_loss());
+    /// // An empty start, and then a record of no bytes.
+    /// let log = [0x64, 0x51, 0xd0, 0xe9, 0, 0, 2, 0x05, 0x2b, 0x28, 0x43, 0, 0, 1];
+    /// for answer in Reading::of(&log)? {
+    ///     match answer {
+    ///         Answer::Record { record, .. } => assert_eq!((record.start, record.end), (7, 14)),
+    ///         Answer::Skip(skip) if skip.reason.is_loss() => panic!("in doubt: {skip}"),
+    ///         Answer::Skip(skip) => assert_eq!((skip.start, skip.reason), (0, Reason::EmptyStart)),
+    ///         Answer::End(tail) => assert_eq!(tail.to_string(), "clean"),
+    ///     }
+    /// }
+    /// # Ok::<(), mellansko::Refusal>(())
     /// ```
     #[must_use]
     pub fn is_loss(self) -> bool {
@@ -96,7 +108,7 @@ impl fmt::Display for Reason {
             Reason::UnknownType => "a piece of a kind that this format does not have",
             Reason::OverLimit => "a record longer than the limit",
             Reason::EmptyStart => {
-                "an empty start of a record, which then begins afresh: nothing is lost"
+                "an empty start: a record begun with no bytes, and then begun again"
             }
         })
     }
