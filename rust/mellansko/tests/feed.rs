@@ -5,7 +5,7 @@ mod fed;
 mod random;
 
 use fed::{logs, moments, of_the_whole, piece_length, told, Told};
-use mellansko::{Answer, Certain, Condition, Feed, Refusal, Tail, BLOCK};
+use mellansko::{Answer, Certain, Condition, Feed, Reason, Refusal, Skip, Tail, BLOCK};
 use mellansko::{LONGEST_LOG, LONGEST_RECORD};
 use random::Random;
 use reference::log::{fragment, FIRST, FULL, LAST};
@@ -111,7 +111,8 @@ fn at_the_earliest_moments() {
     let mut damaged = full.clone();
     damaged[0] ^= 1;
     let padded = |bytes: &[u8], length| [bytes, &vec![0; length - bytes.len()]].concat();
-    let cases: [(Vec<u8>, usize, &[usize]); 8] = [
+    let begun = fragment(FIRST, b"");
+    let cases: [(Vec<u8>, usize, &[usize]); 9] = [
         (full.clone(), 5, &[12]),
         // Over the limit, and so are all its data awaited.
         (full.clone(), 4, &[12]),
@@ -121,10 +122,38 @@ fn at_the_earliest_moments() {
         // With a record open, what is bad interrupts it at once.
         ([&first[..], &hopeless].concat(), 5, &[16]),
         ([&first[..], &damaged].concat(), 5, &[21]),
+        // An empty start is certain together with the record that begins there.
+        ([&begun[..], &full].concat(), 5, &[19, 19]),
         ([first, fragment(LAST, b"3"), full].concat(), 5, &[17, 29]),
     ];
     for (i, (log, limit, expected)) in cases.iter().enumerate() {
         assert_eq!(moments(log, *limit), *expected, "case {i}");
+    }
+}
+
+/// docs/FORMAT.md, §13.4: across the blocks of a log of an early writer, in pieces of any lengths.
+#[test]
+fn with_an_empty_start() {
+    let mut log = vec![0; 2 * BLOCK];
+    let mark = mellansko::append(&mut log, 0, &[1; 32_754]).expect("room");
+    log[mark..BLOCK].copy_from_slice(&fragment(FIRST, b""));
+    let end = mellansko::append(&mut log, BLOCK, b"LW11").expect("room");
+    let skip = Skip {
+        start: mark,
+        end: BLOCK,
+        reason: Reason::EmptyStart,
+    };
+    for length in [1, 6, 7, 4_096, BLOCK, BLOCK + 10, end] {
+        let (mut feed, mut answers) = (Feed::new(), Vec::new());
+        for piece in log[..end].chunks(length) {
+            answers.extend(feed.push(piece).expect("no refusal"));
+            assert!(feed.came() == end || answers.len() < 2, "{length}");
+        }
+        assert_eq!(answers.len(), 3, "{length}");
+        assert_eq!(answers[1], Answer::Skip(skip), "{length}");
+        assert!(matches!(&answers[2], Answer::Record { bytes, .. } if **bytes == *b"LW11"));
+        feed.end();
+        assert_eq!(feed.advance(), Some(Answer::End(Tail::Clean)));
     }
 }
 

@@ -6,10 +6,10 @@ mod fed;
 mod random;
 
 use fed::{logs, moments, of_the_whole, told, Told};
-use mellansko::{Answer, Condition, Incoming, NotRead, Refusal, Tail, BLOCK};
+use mellansko::{Answer, Condition, Incoming, NotRead, Reason, Refusal, Skip, Tail, BLOCK};
 use mellansko::{LONGEST_LOG, LONGEST_RECORD};
 use random::Random;
-use reference::log::{fragment, FULL};
+use reference::log::{fragment, FIRST, FULL};
 use std::cell::Cell;
 use std::error::Error;
 use std::io::{self, ErrorKind, Read};
@@ -190,6 +190,20 @@ fn without_waiting_where_an_answer_is_certain() {
         Ok(Some(Answer::Record { .. }))
     ));
     assert!(incoming.into_inner().0.is_empty());
+}
+
+/// It is told, and the record after it comes with the same bytes.
+#[test]
+fn with_an_empty_start() {
+    let log = [fragment(FIRST, b""), fragment(FULL, b"LW11")].concat();
+    let mut incoming = Incoming::new(Once(log));
+    let (start, end, reason) = (0, 7, Reason::EmptyStart);
+    let skip = Skip { start, end, reason };
+    assert!(matches!(incoming.advance(), Ok(Some(Answer::Skip(given))) if given == skip));
+    assert!(matches!(
+        incoming.advance(),
+        Ok(Some(Answer::Record { .. }))
+    ));
 }
 
 /// A source that says it gave more than it was asked for: the byte too much would be of no log.

@@ -1,4 +1,4 @@
-//! Mending: the examples of docs/FORMAT.md (§12.9), the samples, and the refusals. Random and
+//! Mending: the examples of docs/FORMAT.md (§12.9, §13.7), the samples, and the refusals. Random and
 //! damaged logs are in `typed.rs`.
 
 mod expected;
@@ -7,7 +7,8 @@ mod mended;
 use mellansko::numbers::{self, Numbers};
 use mellansko::{mend, records};
 use mended::mended;
-use reference::log::{self, append, Appended, BLOCK, LONGEST_LOG, LONGEST_RECORD};
+use reference::log::{self, append, fragment, Appended, BLOCK, LONGEST_LOG, LONGEST_RECORD};
+use reference::log::{FIRST, FULL, LAST, MIDDLE};
 use std::collections::BTreeSet;
 
 /// The log of these records, in order.
@@ -60,6 +61,26 @@ fn of_the_examples() {
     assert_eq!(expected::refused(refused), expected);
     let words = "the log has no room for what is to be written from mark 0 on";
     assert_eq!(refused.to_string(), words);
+}
+
+/// Nothing is lost with an empty start, and its bytes are not counted.
+#[test]
+fn of_empty_starts() {
+    let [a, b] = [(32_754, 1), (1_000, 2)].map(|(length, byte)| vec![byte; length]);
+    let mut log = [written(&[&a]), fragment(FIRST, b""), fragment(FULL, &b)].concat();
+    let (fresh, skipped) = made(&log, LONGEST_RECORD);
+    assert_eq!((fresh.len(), skipped), (33_775, 0));
+    assert!(fresh == written(&[&a, &b]));
+    log[33_000] ^= 1;
+    assert!(made(&log, LONGEST_RECORD) == (written(&[&a]), 1_014));
+
+    let [begun, middle, full, orphan] = [FIRST, MIDDLE, FULL, LAST].map(|kind| fragment(kind, b""));
+    let with = |pieces: &[&[u8]]| made(&pieces.concat(), 0);
+    let one = written(&[b""]);
+    assert_eq!(with(&[&begun, &full]), (one.clone(), 0));
+    assert_eq!(with(&[&begun, &middle, &begun, &full]), (one.clone(), 0));
+    assert_eq!(with(&[&begun, &full, &orphan, &begun]), (one, 7));
+    assert_eq!(with(&[&begun, &[0; 7]]), (Vec::new(), 14));
 }
 
 /// What comes out is whole, has the records that there were, and mends to itself.

@@ -49,20 +49,24 @@ fn on_logs_whole_cut_and_changed() {
         }
     }
     three_fragments(&mut random, &mut reasons);
-    assert!(reasons.into_iter().eq(1..=7), "not every reason came up");
+    assert!(reasons.into_iter().eq(1..=8), "not every reason came up");
 }
 
 /// Every three fragments in a row, of the four types and of others. One of type 0 is blank if empty.
+/// All are empty, or all but the last, or each has any length.
 fn three_fragments(random: &mut Random, reasons: &mut BTreeSet<u8>) {
     let kinds = [0, 1, 2, 3, 4, 5, 255];
     for i in 0..kinds.len().pow(3) {
-        let three = [i / 49, i / 7 % 7, i % 7].map(|kind| {
-            let length = random.below(3);
-            fragment(kinds[kind], &random.bytes(length))
-        });
-        for limit in [0, 2, 6] {
-            read(&three.concat(), limit, reasons);
-            mend(&three.concat(), limit);
+        let three = [i / 49, i / 7 % 7, i % 7].map(|kind| kinds[kind]);
+        let any = [(); 3].map(|()| random.below(3));
+        for lengths in [[0, 0, 0], [0, 0, 2], any] {
+            let pieces = three.iter().zip(lengths);
+            let pieces = pieces.map(|(&kind, length)| fragment(kind, &random.bytes(length)));
+            let log = pieces.collect::<Vec<_>>().concat();
+            for limit in [0, 2, 6] {
+                read(&log, limit, reasons);
+                mend(&log, limit);
+            }
         }
     }
 }

@@ -4,13 +4,14 @@ use mellansko::{
     append, Answer, Certain, Condition, Doubt, Feed, Incoming, Mended, Next, NotRead, NotWhole,
 };
 use mellansko::{Reading, Reason, Record, Refusal, Skip, Stored, Tail, LONGEST_RECORD};
-use reference::log::{fragment, FIRST, LAST};
+use reference::log::{fragment, FIRST, FULL, LAST};
 use std::collections::HashSet;
 use std::error::Error;
 use std::fmt::Debug;
 use std::hash::{BuildHasher, BuildHasherDefault, DefaultHasher, Hash};
 
-/// A gathered record, whole ones of which two have the same bytes, a skip, and a torn tail.
+/// A gathered record, whole ones of which two have the same bytes, a range in doubt, an empty start,
+/// and a torn tail.
 fn log() -> Vec<u8> {
     let mut log = vec![0; 100];
     let mut mark = 0;
@@ -18,8 +19,14 @@ fn log() -> Vec<u8> {
         mark = append(&mut log, mark, record).expect("room for it");
     }
     log.truncate(mark);
-    for (kind, data) in [(FIRST, b"LW"), (LAST, b"12"), (LAST, b"??")] {
-        log.extend(fragment(kind, data));
+    for (kind, data) in [
+        (FIRST, "LW"),
+        (LAST, "12"),
+        (LAST, "??"),
+        (FIRST, ""),
+        (FULL, ""),
+    ] {
+        log.extend(fragment(kind, data.as_bytes()));
     }
     log.extend([0; 3]);
     log
@@ -32,7 +39,7 @@ fn in_a_set() {
     let log = log();
     let of = |answer: Answer| BuildHasherDefault::<DefaultHasher>::default().hash_one(answer);
     let answers: Vec<u64> = Reading::of(&log).expect("no refusal").map(of).collect();
-    assert_eq!(answers.iter().collect::<HashSet<_>>().len(), 6);
+    assert_eq!(answers.iter().collect::<HashSet<_>>().len(), 8);
     let mut reading = Reading::of(&log).expect("no refusal");
     let mut lent = Vec::new();
     while let Some(answer) = reading.advance() {
