@@ -9,9 +9,10 @@
  * on the record and on the mark's place in its block alone (docs/FORMAT.md 3.9). So it appends in a
  * scratch log at the file's length modulo 32,768, and writes what was added at the file's end.
  *
- * It does not read the journal. The caller must know that all of it reads with no skip and a clean
- * end, as `mellansko verify` says: a record after what is in doubt, or after a torn tail, may not
- * be found again. If it does not read so, begin another journal.
+ * It does not read the journal. The caller must know that nothing in it is in doubt, as `mellansko
+ * verify` says: that all of it reads as records, empty starts if there are any, and a clean end. A
+ * record after what is in doubt, or after a torn tail, may not be found again. If it does not read
+ * so, begin another journal.
  *
  * The file must be there: an empty one is a journal without records. It is locked as the tool locks
  * it, so that two of these or of `mellansko append` do not mix. A record that could not be written

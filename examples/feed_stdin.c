@@ -1,7 +1,7 @@
 /*
  * Reads a journal from standard input as it comes, over a slow line say, and prints what is in it,
  * each line as soon as nothing that may still come can change it: each record's range and length,
- * each range in doubt and why, and how it ends.
+ * each range in doubt and why, each that is skipped without a loss, and how it ends.
  *
  *   cc -std=c99 -Iinclude examples/feed_stdin.c target/staticlib/libmellansko.a -o feed_stdin &&
  *   ./feed_stdin <samples/damaged.log
@@ -44,6 +44,7 @@ static void doubt(void)
 static void print_certain(void)
 {
     struct mellansko_answer answer;
+    int loss;
     for (;;) {
         switch (mellansko_feed_next(&feed, block, buffer, sizeof buffer, &answer)) {
         case MELLANSKO_RECORD: /* its bytes are the buffer's first */
@@ -51,9 +52,11 @@ static void print_certain(void)
                    answer.record.end, answer.record.length);
             break;
         case MELLANSKO_SKIP:
-            printf("in doubt %" PRIu64 " to %" PRIu64 ": %s\n", answer.skip.start, answer.skip.end,
-                   mellansko_reason_text(answer.skip.reason));
-            doubt();
+            loss = mellansko_reason_is_loss(answer.skip.reason);
+            printf("%s %" PRIu64 " to %" PRIu64 ": %s\n", loss ? "in doubt" : "skipped",
+                   answer.skip.start, answer.skip.end, mellansko_reason_text(answer.skip.reason));
+            if (loss)
+                doubt();
             break;
         case MELLANSKO_END:
             if (answer.end.tail == MELLANSKO_CLEAN) {

@@ -12,8 +12,8 @@
  * NEW's name may be missing.
  *
  * NEW reads as whole. It does not show that anything was lost, nor where: of BAD, as far as a
- * reader can tell, examples/read_file.c says where. A torn tail is lost too, and is not counted as
- * skipped. So keep BAD.
+ * reader can tell, examples/read_file.c says where. Not counted as skipped are empty starts, which
+ * are no loss, and a torn tail, which is lost too. So keep BAD.
  *
  * The exit status is 0 if NEW is written, whatever was skipped. It is 2 if not, or if the lines
  * could not be printed.
@@ -107,7 +107,7 @@ static int mend(const char *bad_name, size_t length, const char *new_name)
     if (!put(new_name, (size_t)answer.mended.length))
         return 0;
     printf("written to %s: %" PRIu64 " bytes\n", new_name, answer.mended.length);
-    printf("skipped in %s: %" PRIu64 " bytes, where a torn tail is not counted\n", bad_name,
+    printf("skipped in %s: %" PRIu64 " bytes, with no empty start or torn tail counted\n", bad_name,
            answer.mended.skipped);
     if (fflush(stdout) == 0 && !ferror(stdout))
         return 1;

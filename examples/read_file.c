@@ -1,6 +1,6 @@
 /*
  * Reads a journal from a file, and prints what is in it: each record's range and length, each
- * range in doubt and why, and how it ends.
+ * range in doubt and why, each that is skipped without a loss, and how it ends.
  *
  *   cc -std=c99 -Iinclude examples/read_file.c target/staticlib/libmellansko.a -o read_file &&
  *   ./read_file samples/damaged.log
@@ -43,7 +43,7 @@ static int read_file(const char *name, size_t *length)
 static int print_log(const char *name, size_t length)
 {
     struct mellansko_answer answer;
-    int status = NO_DAMAGE;
+    int loss, status = NO_DAMAGE;
     size_t place = 0;
     for (;;) {
         switch (mellansko_next(log_bytes, length, place, sizeof buffer, buffer, sizeof buffer,
@@ -53,9 +53,11 @@ static int print_log(const char *name, size_t length)
                    answer.record.end, answer.record.length);
             break;
         case MELLANSKO_SKIP:
-            printf("in doubt %" PRIu64 " to %" PRIu64 ": %s\n", answer.skip.start, answer.skip.end,
-                   mellansko_reason_text(answer.skip.reason));
-            status = IN_DOUBT;
+            loss = mellansko_reason_is_loss(answer.skip.reason);
+            printf("%s %" PRIu64 " to %" PRIu64 ": %s\n", loss ? "in doubt" : "skipped",
+                   answer.skip.start, answer.skip.end, mellansko_reason_text(answer.skip.reason));
+            if (loss)
+                status = IN_DOUBT;
             break;
         case MELLANSKO_END:
             if (answer.end.tail == MELLANSKO_CLEAN) {

@@ -1,6 +1,6 @@
 //! examples/feed_stdin.c, held to the reference, over files and over a pipe that pauses.
 
-use crate::files::{printed, reading, run, said, set_length};
+use crate::files::{of_an_early_writer, printed, reading, run, said, set_length, EARLY};
 use crate::folder::{root, Folder, C, CLANG, SANITIZED};
 use crate::refusal_text;
 use reference::log::{fragment, BLOCK, FIRST, FULL, LAST, LONGEST_LOG};
@@ -12,7 +12,7 @@ use std::sync::mpsc::{self, Receiver};
 use std::thread;
 use std::time::Duration;
 
-/// The samples, the texts beside them, nothing, and the first bytes of a sample.
+/// The samples, the texts beside them, nothing, the first bytes of a sample, and an empty start.
 #[test]
 fn a_log_is_read_as_the_reference_reads_it() {
     let folder = Folder::new("feed");
@@ -28,6 +28,8 @@ fn a_log_is_read_as_the_reference_reads_it() {
             assert_eq!(printed(&ran), reading(log), "{way:?} {}", log.len());
             assert_eq!(ran.stderr, b"");
         }
+        let ran = run(&mut Command::new(&program), &of_an_early_writer());
+        assert_eq!(printed(&ran), (EARLY.into(), 0), "{way:?}");
     }
 }
 
@@ -39,6 +41,7 @@ fn each_answer_is_printed_when_it_is_certain() {
         fragment(FULL, b"LW10-1 0.9137"),
         fragment(FIRST, b"LW11"),
         fragment(LAST, b" 0.8412"),
+        fragment(FIRST, b""),
         fragment(FIRST, b"LW"),
         vec![0; 8],
     ]
@@ -47,10 +50,14 @@ fn each_answer_is_printed_when_it_is_certain() {
     let steps = [
         (20, "record 0 to 20: 13 bytes"),
         (45, "record 20 to 45: 11 bytes"),
-        // The seventh byte of a header that is blank.
         (
             61,
-            "in doubt 45 to 54: a record that breaks off before its last piece",
+            "skipped 45 to 52: an empty start: a record begun with no bytes, and then begun again",
+        ),
+        // The seventh byte of a header that is blank.
+        (
+            68,
+            "in doubt 52 to 61: a record that breaks off before its last piece",
         ),
     ];
     for way in folder.there(&[C]) {

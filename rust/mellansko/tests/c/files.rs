@@ -2,7 +2,9 @@
 
 use crate::folder::{left_out, root, Folder, Way, C, CLANG, SANITIZED};
 use crate::{reason_text, refusal_text};
-use reference::log::{append, next, Appended, Next, Tail, LONGEST_LOG, LONGEST_RECORD};
+use reference::log::{
+    append, fragment, next, Appended, Next, Tail, FIRST, LAST, LONGEST_LOG, LONGEST_RECORD,
+};
 use std::fs::{self, File};
 use std::io::Write as _;
 use std::path::{Path, PathBuf};
@@ -32,6 +34,32 @@ fn a_file_is_read_as_the_reference_reads_it() {
             assert_eq!(printed(&ran), (lines, status), "{way:?} {}", file.display());
             assert_eq!(ran.stderr, b"");
         }
+    }
+}
+
+/// It is printed, and is no damage: the journal can be appended to. With an orphan after it there is.
+#[test]
+fn an_empty_start_is_no_damage() {
+    let folder = Folder::new("empty-start");
+    let file = folder.0.join("journal");
+    for way in folder.there(&[C, SANITIZED, CLANG]) {
+        let [append, read] = ["append_file", "read_file"]
+            .map(|name| folder.program(way, &root().join(format!("examples/{name}.c"))));
+        let reads_as = |expected: (String, i32)| {
+            let ran = run(Command::new(&read).arg(&file), b"");
+            assert_eq!((printed(&ran), said(&ran)), (expected, String::new()));
+        };
+        let log = of_an_early_writer();
+        fs::write(&file, &log).expect("a file");
+        reads_as((EARLY.into(), 0));
+        let ran = run(Command::new(&append).arg(&file).arg("LW12"), b"");
+        assert_eq!(printed(&ran), (String::new(), 0), "{}", said(&ran));
+        let (before, _) = EARLY.split_once("clean").expect("a clean end");
+        let after = "record 33775 to 33786: 4 bytes\nclean end at 33786\n";
+        reads_as((format!("{before}{after}"), 0));
+        fs::write(&file, [log, fragment(LAST, b"")].concat()).expect("a file");
+        let after = skipped(33_775, 33_782, 5) + "clean end at 33782\n";
+        reads_as((format!("{before}{after}"), 1));
     }
 }
 
@@ -230,8 +258,9 @@ pub fn reading(log: &[u8]) -> (String, i32) {
                 start, end, length, ..
             } => lines += &format!("record {start} to {end}: {length} bytes\n"),
             Next::Skip { start, end, reason } => {
-                lines += &format!("in doubt {start} to {end}: {}\n", reason_text(reason));
-                status = 1;
+                lines += &skipped(start, end, reason);
+                // Nothing is in doubt there (docs/FORMAT.md, §13.5).
+                status = if reason == 8 { status } else { 1 };
             }
             Next::End(Tail::Clean) => return (lines + &format!("clean end at {place}\n"), status),
             Next::End(Tail::Torn(start)) => {
@@ -241,6 +270,26 @@ pub fn reading(log: &[u8]) -> (String, i32) {
         }
     }
 }
+
+/// The line of a range that is skipped.
+pub fn skipped(start: usize, end: usize, reason: u8) -> String {
+    let word = if reason == 8 { "skipped" } else { "in doubt" };
+    format!("{word} {start} to {end}: {}\n", reason_text(reason))
+}
+
+/// A journal of an early writer, of which a block has 7 bytes left: there a record is begun without
+/// bytes, and then begun afresh (docs/FORMAT.md, §13.7).
+pub fn of_an_early_writer() -> Vec<u8> {
+    let mut log = appended(Vec::new(), &some_bytes(32_754, 3));
+    log.extend(fragment(FIRST, b""));
+    appended(log, &some_bytes(1_000, 7))
+}
+
+/// What read_file and feed_stdin print of it.
+pub const EARLY: &str = "record 0 to 32761: 32754 bytes\n\
+     skipped 32761 to 32768: an empty start: a record begun with no bytes, and then begun again\n\
+     record 32768 to 33775: 1000 bytes\n\
+     clean end at 33775\n";
 
 pub fn appended(mut log: Vec<u8>, record: &[u8]) -> Vec<u8> {
     let mark = log.len();

@@ -1,6 +1,7 @@
 //! examples/mend_file.c, held to the reference.
 
-use crate::files::{appended, printed, reading, run, said, set_length, some_bytes};
+use crate::files::{appended, of_an_early_writer, printed, reading};
+use crate::files::{run, said, set_length, some_bytes};
 use crate::folder::{left_out, root, Folder, Way, C, CLANG, SANITIZED};
 use crate::mended::mended;
 use crate::refusal_text;
@@ -26,7 +27,7 @@ fn mend(program: &Path, bad: &Path, new: &Path) -> Output {
 /// The lines that are printed when a file was mended into another.
 fn lines(bad: &Path, new: &Path, length: usize, skipped: usize) -> String {
     let (bad, new) = (bad.display(), new.display());
-    let tail = "where a torn tail is not counted";
+    let tail = "with no empty start or torn tail counted";
     format!("written to {new}: {length} bytes\nskipped in {bad}: {skipped} bytes, {tail}\n")
 }
 
@@ -54,6 +55,22 @@ fn a_file_is_mended_as_the_reference_mends_it() {
             assert_eq!(reading(&expected).1, 0);
             fs::remove_file(&new).expect("the new file");
         }
+    }
+}
+
+/// An empty start is left out, and not counted.
+#[test]
+fn an_empty_start_is_mended_without_a_loss() {
+    let folder = Folder::new("mend-empty-start");
+    let log = of_an_early_writer();
+    let (bad, new) = (folder.file("bad", &log), folder.0.join("new"));
+    let records = appended(Vec::new(), &some_bytes(32_754, 3));
+    let records = appended(records, &some_bytes(1_000, 7));
+    for way in folder.there(&[C]) {
+        let ran = mend(&program(&folder, way), &bad, &new);
+        assert_eq!(printed(&ran), (lines(&bad, &new, 33_775, 0), 0));
+        assert!(fs::read(&new).expect("the new file") == records);
+        fs::remove_file(&new).expect("the new file");
     }
 }
 
