@@ -1,5 +1,6 @@
 /*
- * A race day's journal: written, read back, read with a byte changed, and read after a cut.
+ * A race day's journal: written, read back, read with a byte changed, and read after a cut; and one
+ * that an early LevelDB writer could have begun.
  *
  *   rt staticlib mellansko &&
  *   cc -std=c99 -Iinclude examples/journal.c target/staticlib/libmellansko.a -o journal &&
@@ -47,8 +48,9 @@ static void read_all(size_t length)
             printf("\n");
             break;
         case MELLANSKO_SKIP:
-            printf("in doubt %" PRIu64 " to %" PRIu64 ": %s\n", answer.skip.start, answer.skip.end,
-                   mellansko_reason_text(answer.skip.reason));
+            printf("%s %" PRIu64 " to %" PRIu64 ": %s\n",
+                   mellansko_reason_is_loss(answer.skip.reason) ? "in doubt" : "skipped",
+                   answer.skip.start, answer.skip.end, mellansko_reason_text(answer.skip.reason));
             break;
         case MELLANSKO_END:
             if (answer.end.tail == MELLANSKO_TORN)
@@ -85,6 +87,12 @@ int main(void)
 
     printf("cut 5 bytes before its end\n");
     read_all(mark - 5);
+
+    /* A record begun with no bytes, and then begun again: skipped, but not in doubt. */
+    printf("with an empty start\n");
+    memcpy(journal, "\x64\x51\xd0\xe9\0\0\2", 7);
+    mark = append(7, "factor LW10-1 0.9137");
+    read_all(mark);
     /* What could not be written was not said. */
     return fflush(stdout) != 0 || ferror(stdout);
 }

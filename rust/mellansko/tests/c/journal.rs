@@ -1,8 +1,11 @@
 //! examples/journal.c, held to the reference, and what the README shows of it.
 
+use crate::files::skipped;
 use crate::folder::{root, text, Folder, C, CLANG, CLANG_CPP, CPP, SANITIZED};
-use crate::{reason_text, refusal_text};
-use reference::log::{append, next, record_bytes, Appended, Next, Tail, LONGEST_RECORD};
+use crate::refusal_text;
+use reference::log::{
+    append, fragment, next, record_bytes, Appended, Next, Tail, FIRST, FULL, LONGEST_RECORD,
+};
 use std::fmt::Write as _;
 
 #[test]
@@ -61,6 +64,16 @@ fn journal() -> String {
     lines += &format!("with byte 40 changed\n{}", reading(&log[..mark]));
     log[40] ^= 1;
     lines += &format!("cut 5 bytes before its end\n{}", reading(&log[..mark - 5]));
+    let log = [
+        fragment(FIRST, b""),
+        fragment(FULL, b"factor LW10-1 0.9137"),
+    ]
+    .concat();
+    let mark = log.len();
+    lines += &format!(
+        "with an empty start\nappended up to {mark}\n{}",
+        reading(&log)
+    );
     lines
 }
 
@@ -77,9 +90,7 @@ fn reading(log: &[u8]) -> String {
                 let text = String::from_utf8_lossy(bytes);
                 format!("record {start} to {end}: {text}")
             }
-            Next::Skip { start, end, reason } => {
-                format!("in doubt {start} to {end}: {}", reason_text(reason))
-            }
+            Next::Skip { start, end, reason } => skipped(start, end, reason).trim_end().into(),
             Next::End(Tail::Clean) => format!("clean end at {place}"),
             Next::End(Tail::Torn(start)) => format!("torn from {start} to {}", log.len()),
             Next::Refused { number, given } => {
