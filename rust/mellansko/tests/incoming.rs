@@ -79,7 +79,7 @@ fn in_any_pieces_and_with_errors_in_between() {
             failures += errors;
         }
     }
-    assert!(failures > 100, "only {failures} errors");
+    assert!(failures > 30, "only {failures} errors");
 }
 
 /// Every answer, and the number of errors before and between them.
