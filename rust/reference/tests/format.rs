@@ -1,6 +1,9 @@
 //! The figures and examples of docs/FORMAT.md, held to this implementation: each is worked out here
 //! and must stand on the page as it comes out.
 
+#[path = "format/empty_start.rs"]
+mod empty_start;
+
 use reference::feed::{self, Told};
 use reference::log::{append, next, Appended, Next, Stored, Tail, BLOCK};
 use reference::mend::{mend, Mended};
@@ -236,18 +239,29 @@ fn the_longest_record() {
     );
 }
 
-/// The rows of a table, without its head.
+/// The rows of the first table after a number, without its head.
 fn rows(text: &str) -> Vec<Vec<String>> {
     let start = PAGE.find(&format!("**{text}**")).expect(text);
-    let lines = PAGE[start..]
-        .lines()
-        .skip_while(|line| !line.starts_with('|'));
+    table(&mut PAGE[start..].lines())
+}
+
+/// The rows of the next table. The lines go on after it.
+fn table<'a>(lines: &mut impl Iterator<Item = &'a str>) -> Vec<Vec<String>> {
+    let lines = lines.skip_while(|line| !line.starts_with('|'));
     let lines = lines.take_while(|line| line.starts_with('|')).skip(2);
     lines
         .map(|line| {
             let cells = line.trim_matches('|').split('|');
             cells.map(|cell| cell.trim().to_string()).collect()
         })
+        .collect()
+}
+
+/// The bytes that a cell shows, in groups or not.
+fn bytes(hex: &str) -> Vec<u8> {
+    let bytes = hex.split(' ').filter(|part| *part != "·");
+    bytes
+        .map(|byte| u8::from_str_radix(byte, 16).expect("a byte"))
         .collect()
 }
 
@@ -276,10 +290,7 @@ fn small_logs() {
             "no bytes" => Vec::new(),
             "any six bytes" => vec![0x5a; 6],
             "seven zeros" => vec![0; 7],
-            hex => hex
-                .split(' ')
-                .map(|byte| u8::from_str_radix(byte, 16).expect("a byte"))
-                .collect(),
+            hex => bytes(hex),
         };
         assert_eq!(told(&log, 100).join("; "), row[1], "{row:?}");
     }
@@ -330,11 +341,15 @@ fn fed(log: &[u8], limit: usize, length: usize) -> Vec<(String, usize)> {
         }
     }
     feed::end(&mut state);
-    let Told::Answer(answer) = feed::next(&mut state, &block, &mut buffer) else {
-        panic!("the end is announced");
-    };
-    told.push((fed_line(answer), state.came as usize));
-    told
+    loop {
+        let Told::Answer(answer) = feed::next(&mut state, &block, &mut buffer) else {
+            panic!("the end is announced");
+        };
+        told.push((fed_line(answer), state.came as usize));
+        if matches!(answer, Next::End(_)) {
+            return told;
+        }
+    }
 }
 
 fn fed_line(answer: Next) -> String {
@@ -350,6 +365,7 @@ fn fed_line(answer: Next) -> String {
             format!("skipped {start} to {end}, reason {reason}")
         }
         Next::End(Tail::Clean) => "end, clean".to_string(),
+        Next::End(Tail::Torn(start)) => format!("end, torn at {}", grouped(start)),
         other => panic!("{other:?}"),
     }
 }

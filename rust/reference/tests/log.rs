@@ -159,20 +159,62 @@ fn over_the_limit() {
     }
 }
 
-/// "Where reason 1, 2 or 3 arises with a record open, reason 4 is answered first"
+/// A fragment of 3 bytes after an empty FIRST, or after that and empty MIDDLEs: a FULL and a FIRST
+/// give reason 8, at any limit (§13.2), and nothing else does (§13.3).
+#[test]
+fn after_an_empty_first() {
+    for middles in 0..3 {
+        let empty = [fragment(2, &[]), fragment(3, &[]).repeat(middles)].concat();
+        let (end, all) = (empty.len(), empty.len() + 10);
+        let gathered = record(0, all, 3, Stored::Gathered);
+        let rows = [
+            (1, skip(0, end, 8), skip(0, end, 8)),
+            (2, skip(0, end, 8), skip(0, end, 8)),
+            (3, Next::End(Tail::Torn(0)), skip(0, all, 7)),
+            (4, gathered, skip(0, all, 7)),
+            (0, skip(0, end, 4), skip(0, end, 4)),
+            (5, skip(0, end, 4), skip(0, end, 4)),
+            (255, skip(0, end, 4), skip(0, end, 4)),
+        ];
+        for (kind, within, over) in rows {
+            let log = [empty.clone(), fragment(kind, &[7; 3])].concat();
+            assert_eq!(read(&log, 3)[0].0, within, "type {kind}, {middles}");
+            assert_eq!(read(&log, 2)[0].0, over, "type {kind}, {middles}");
+        }
+    }
+}
+
+/// One byte of data, in the FIRST or in any MIDDLE, and it is no empty start.
+#[test]
+fn after_a_byte() {
+    let data: [&[u8]; 2] = [&[], &[7]];
+    for which in 0..3 {
+        let part = |i: usize, kind| fragment(kind, data[usize::from(i == which)]);
+        let open = [part(0, 2), part(1, 3), part(2, 3)].concat();
+        for kind in [1, 2] {
+            let log = [open.clone(), fragment(kind, &[])].concat();
+            assert_eq!(read(&log, 9)[0].0, skip(0, 22, 4), "byte in {which}");
+        }
+    }
+}
+
+/// "Where reason 1, 2 or 3 arises with a record open, reason 4 is answered first": of an empty one
+/// too.
 #[test]
 fn interrupted_before_bad() {
-    let first = fragment(2, &[7; 2]);
     let bad = [
         (vec![0, 0, 0, 0, 0xFF, 0xFF, 1], 1),
         (vec![0; 7], 2),
         (vec![0, 0, 0, 0, 0, 0, 1], 3),
     ];
     for (header, reason) in bad {
-        let log = [first.clone(), header, vec![0xA5; 20]].concat();
-        let answers = [skip(0, 9, 4), skip(9, 36, reason), Next::End(Tail::Clean)];
-        let read: Vec<Next> = read(&log, 100).into_iter().map(|(next, _)| next).collect();
-        assert_eq!(read, answers);
+        for first in [fragment(2, &[7; 2]), fragment(2, &[])] {
+            let log = [&first[..], &header, &[0xA5; 20]].concat();
+            let (o, end) = (first.len(), log.len());
+            let answers = [skip(0, o, 4), skip(o, end, reason), Next::End(Tail::Clean)];
+            let read: Vec<Next> = read(&log, 100).into_iter().map(|(next, _)| next).collect();
+            assert_eq!(read, answers);
+        }
     }
 }
 

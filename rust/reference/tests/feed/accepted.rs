@@ -26,11 +26,11 @@ pub fn accepted(log: &[u8], answers: &[Next]) -> Vec<Accepted> {
         .iter()
         .flat_map(|answer| match *answer {
             Next::Record { start, end, .. } => fragments(log, start..end),
-            // A record that breaks off: all that it has.
+            // A record that breaks off or begins afresh: all that it has.
             Next::Skip {
                 start,
                 end,
-                reason: 4,
+                reason: 4 | 8,
             } => fragments(log, start..end),
             // The fragment that is too much is not accepted.
             Next::Skip {

@@ -3,8 +3,8 @@
 use crate::fed::Fed;
 use crate::make;
 use crate::random::Random;
-use reference::feed::{self, take, Told};
-use reference::log::{fragment, Next, BLOCK, FIRST, FULL, HEADER, LAST};
+use reference::feed::{self, reading, take, Told};
+use reference::log::{fragment, Next, BLOCK, FIRST, FULL, HEADER, LAST, MIDDLE};
 
 const CUT: usize = 12;
 
@@ -95,6 +95,31 @@ fn of_twelve_bytes() {
         let limit = make::pick(random, &[4, 5, 9]);
         every_cutting(&Fed::new(random, &twelve, limit));
     }
+}
+
+/// With an empty FIRST before them, and an empty MIDDLE as well.
+#[test]
+fn of_twelve_bytes_after_an_empty_first() {
+    let random = &mut Random::new();
+    println!("{random}");
+    let mut starts = 0;
+    for twelve in twelves(random) {
+        for before in [&[FIRST][..], &[FIRST, MIDDLE]] {
+            let before: Vec<u8> = before
+                .iter()
+                .flat_map(|&kind| fragment(kind, &[]))
+                .collect();
+            let log = [&before, &twelve[..]].concat();
+            let mut fed = Fed::new(random, &log, 9);
+            fed.offer(before.len());
+            fed.draw_all();
+            every_cutting(&fed);
+            let first = reading(&log, 9)[0];
+            starts += usize::from(matches!(first, Next::Skip { reason: 8, .. }));
+        }
+    }
+    // By a FULL of five bytes, by a FIRST, and by those of fewer bytes.
+    assert!(starts >= 8, "{starts} empty starts");
 }
 
 /// With a record, a FIRST or bad bytes before them, and as many of them in the next block.

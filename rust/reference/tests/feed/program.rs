@@ -75,6 +75,8 @@ fn of_small_logs() {
     assert_eq!(lines(&open), "E torn 0\n");
     let interrupted = [open, fragment(FULL, b"")].concat();
     assert_eq!(lines(&interrupted), "S 0 11 4\nR 11 18 0\nE clean\n");
+    let empty_start = [fragment(FIRST, b""), fragment(FULL, b"")].concat();
+    assert_eq!(lines(&empty_start), "S 0 7 8\nR 7 14 0\nE clean\n");
 }
 
 /// The longest log there may be, and a byte more: what was certain before it, and the refusal.

@@ -7,7 +7,8 @@ pub struct Reading {
     pub records: Vec<Vec<u8>>,
     /// The records' spans, in the same order.
     pub spans: Vec<Range<usize>>,
-    pub skipped: Vec<Range<usize>>,
+    /// The skipped ranges, each with its reason.
+    pub skipped: Vec<(Range<usize>, u8)>,
     pub tail: Tail,
     /// The buffer as the reading leaves it.
     pub buffer: Vec<u8>,
@@ -32,8 +33,8 @@ pub fn reading(log: &[u8], limit: usize, buffer: &[u8]) -> Reading {
                 read.spans.push(start..end);
                 place = end;
             }
-            Next::Skip { start, end, .. } => {
-                read.skipped.push(start..end);
+            Next::Skip { start, end, reason } => {
+                read.skipped.push((start..end, reason));
                 place = end;
             }
             Next::End(tail) => {
@@ -56,8 +57,10 @@ impl Reading {
         marks.collect()
     }
 
+    /// Those of all ranges but of empty starts (§12.2).
     pub fn bytes_skipped(&self) -> usize {
-        self.skipped.iter().map(Range::len).sum()
+        let lost = self.skipped.iter().filter(|(_, reason)| *reason != 8);
+        lost.map(|(range, _)| range.len()).sum()
     }
 }
 

@@ -5,7 +5,7 @@ use crate::random::Random;
 use reference::log::{append, fragment, Appended, BLOCK, FIRST, FULL, HEADER, LAST, MIDDLE};
 
 /// As the writer makes them and as it does not: records in several fragments, a FIRST with no data
-/// in the middle of a block, orphans.
+/// in the middle of a block, orphans, empty starts.
 fn logs() -> Vec<Vec<u8>> {
     let full = |length| fragment(FULL, &vec![b'f'; length]);
     vec![
@@ -35,7 +35,44 @@ fn logs() -> Vec<Vec<u8>> {
             fragment(LAST, b"late"),
         ]
         .concat(),
+        afresh(),
     ]
+}
+
+/// Two records that begin afresh after empty starts.
+fn afresh() -> Vec<u8> {
+    let fragments = [
+        fragment(FIRST, b""),
+        fragment(FULL, b"ab"),
+        fragment(FIRST, b""),
+        fragment(MIDDLE, b""),
+        fragment(FIRST, b"af"),
+        fragment(LAST, b"resh"),
+    ];
+    fragments.concat()
+}
+
+/// An empty start is not counted (§13.5), and is not in the mended log; every byte is counted where
+/// it is interrupted by anything else.
+#[test]
+fn with_empty_starts() {
+    let random = &mut Random::new();
+    println!("{random}");
+    let empty = [fragment(FIRST, b""), fragment(MIDDLE, b"")].concat();
+    let begun = [fragment(FIRST, b""), fragment(MIDDLE, b"1")].concat();
+    let record = [fragment(FIRST, b"2"), fragment(LAST, b"3")].concat();
+    let mut spoilt = record.clone();
+    spoilt[7] ^= 1;
+    let fresh = fragment(FULL, b"23");
+    for (bad, due) in [
+        ([&empty, &record], (&fresh[..], 0)),
+        ([&empty, &fresh], (&fresh, 0)),
+        ([&begun, &record], (&fresh, begun.len())),
+        ([&empty, &spoilt], (&[], empty.len() + spoilt.len())),
+    ] {
+        let (log, skipped) = hold(random, &[&bad[0][..], bad[1]].concat(), 12);
+        assert_eq!((&log[..], skipped), due);
+    }
 }
 
 #[test]
