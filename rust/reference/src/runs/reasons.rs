@@ -1,4 +1,4 @@
-//! Runs over the reasons for a skip, 1 to 7, with the limits at the last, and over the asking for
+//! Runs over the reasons for a skip, 1 to 8, with the limits at 7, and over the asking for
 //! bytes. Each place is written out, so that a step can be checked by hand.
 
 use super::Run;
@@ -12,6 +12,8 @@ pub fn listing() -> String {
     checksum(&mut run);
     nothing_open(&mut run);
     record_open(&mut run);
+    empty_start(&mut run);
+    empty_interrupted(&mut run);
     over_the_limit(&mut run);
     bytes_asked_for(&mut run);
     run.lines
@@ -70,6 +72,42 @@ fn record_open(run: &mut Run) {
     run.fragment(84, 5, 8, 5);
     run.read(96, 100);
     run.sums(96);
+}
+
+fn empty_start(run: &mut Run) {
+    run.scenario(
+        "reason 8, empty start, as an early LevelDB writer left it: \
+         afresh with FULL, and with FIRST",
+    );
+    run.fragment(0, FULL, 1, 32_754);
+    run.fragment(32_761, FIRST, 2, 0);
+    run.fragment(32_768, FULL, 2, 1_000);
+    run.fragment(33_775, FULL, 3, 31_747);
+    run.fragment(65_529, FIRST, 4, 0);
+    run.fragment(65_536, FIRST, 4, 32_761);
+    run.fragment(98_304, LAST, 5, 7_239);
+    run.read(105_550, 262_144);
+    run.sums(105_550);
+}
+
+fn empty_interrupted(run: &mut Run) {
+    run.scenario(
+        "reasons 8 and 4 by what interrupts: FULL after an empty MIDDLE, type 5, \
+         FULL after a MIDDLE with bytes, a changed FULL",
+    );
+    run.fragment(0, FIRST, 1, 0);
+    run.fragment(7, MIDDLE, 2, 0);
+    run.fragment(14, FULL, 3, 5);
+    run.fragment(26, FIRST, 4, 0);
+    run.fragment(33, 5, 5, 5);
+    run.fragment(45, FIRST, 6, 0);
+    run.fragment(52, MIDDLE, 7, 5);
+    run.fragment(64, FULL, 8, 5);
+    run.fragment(76, FIRST, 9, 0);
+    run.fragment(83, FULL, 10, 5);
+    run.change(90, 1);
+    run.read(95, 100);
+    run.sums(95);
 }
 
 fn over_the_limit(run: &mut Run) {
