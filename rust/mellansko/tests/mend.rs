@@ -91,6 +91,7 @@ fn of_the_samples() {
         include_bytes!("../../../samples/damaged.log"),
         include_bytes!("../../../samples/leveldb.log"),
         include_bytes!("../../../samples/torn.log"),
+        include_bytes!("../../../samples/old_writer.log"),
     ];
     let mut same = Vec::new();
     for bad in samples {
@@ -101,8 +102,14 @@ fn of_the_samples() {
         assert!(made(&fresh, LONGEST_RECORD) == (fresh.clone(), 0));
         same.push((fresh == bad, skipped));
     }
-    // A torn tail is lost, and not counted.
-    assert_eq!(same, [(true, 0), (false, 41_605), (true, 0), (false, 0)]);
+    // A torn tail is lost, and not counted. Nothing is lost with an empty start, which does not come
+    // out (§13.5).
+    let [clean, damaged, leveldb, torn, old_writer] = same[..] else {
+        panic!("{same:?}");
+    };
+    assert_eq!([clean, leveldb], [(true, 0); 2]);
+    assert_eq!(damaged, (false, 41_605));
+    assert_eq!([torn, old_writer], [(false, 0); 2]);
 }
 
 /// A record over the limit is lost: a reading of the mended log with a higher one has it no more.

@@ -47,6 +47,7 @@ fn on_the_samples() {
         &include_bytes!("../../../samples/clean.log")[..],
         include_bytes!("../../../samples/damaged.log"),
         include_bytes!("../../../samples/leveldb.log"),
+        include_bytes!("../../../samples/old_writer.log"),
         include_bytes!("../../../samples/torn.log"),
     ];
     let mut whole = Vec::new();
@@ -55,7 +56,7 @@ fn on_the_samples() {
         whole.push(expected.is_ok());
         assert!(strict::of(records(log)) == expected);
     }
-    assert_eq!(whole, [true, false, true, false]);
+    assert_eq!(whole, [true, false, true, true, false]);
 }
 
 /// At the highest limit and one byte above it, and with a lower one.

@@ -2,7 +2,8 @@
 //! samples/README.md says.
 
 use reference::log::{
-    next, record_bytes, Next, Tail, BLOCK, FIRST, HEADER, LAST, LONGEST_RECORD, MIDDLE,
+    fragment, next, record_bytes, Next, Tail, BLOCK, FIRST, FULL, HEADER, LAST, LONGEST_RECORD,
+    MIDDLE,
 };
 use reference::samples::{self, Journal};
 
@@ -10,6 +11,7 @@ const CLEAN: &[u8] = include_bytes!("../../../samples/clean.log");
 const TORN: &[u8] = include_bytes!("../../../samples/torn.log");
 const DAMAGED: &[u8] = include_bytes!("../../../samples/damaged.log");
 const LEVELDB: &[u8] = include_bytes!("../../../samples/leveldb.log");
+const OLD_WRITER: &[u8] = include_bytes!("../../../samples/old_writer.log");
 
 #[test]
 fn are_what_this_crate_makes() {
@@ -17,6 +19,8 @@ fn are_what_this_crate_makes() {
     assert!(CLEAN == samples::clean().log, "clean.log: {again}");
     assert!(TORN == samples::torn(), "torn.log: {again}");
     assert!(DAMAGED == samples::damaged(), "damaged.log: {again}");
+    let old_writer = samples::old_writer().log;
+    assert!(OLD_WRITER == old_writer, "old_writer.log: {again}");
 }
 
 #[test]
@@ -106,6 +110,44 @@ fn damaged_has_this_seasons_factors_in_doubt() {
     same(&read(DAMAGED), &answers);
 }
 
+/// Where a record begins afresh, an empty start comes before it, and nothing else is skipped.
+#[test]
+fn old_writer_has_two_empty_starts() {
+    let day = samples::old_writer();
+    let mut answers = Vec::new();
+    let (mut end, mut afresh) = (0, Vec::new());
+    for (i, answer) in records(&day, 0..day.records.len()).into_iter().enumerate() {
+        let (start, record_end) = day.span(i);
+        if start > end {
+            assert_eq!((start - end, start % BLOCK), (HEADER, 0));
+            assert_eq!(OLD_WRITER[end..start], fragment(FIRST, b""));
+            answers.push(Answer::Skip(end, start, 8));
+            afresh.push((OLD_WRITER[start + 6], day.records[i].len() > BLOCK));
+        }
+        answers.push(answer);
+        end = record_end;
+    }
+    answers.push(Answer::End(Tail::Clean));
+    same(&read(OLD_WRITER), &answers);
+    // This season's factors, which are longer than a block, and a start.
+    assert_eq!(afresh, [(FIRST, true), (FULL, false)]);
+}
+
+/// What was noted is what the whole day begins with, but for the clocks and the last record.
+#[test]
+fn old_writer_is_of_the_same_day() {
+    let noted = |journal: Journal| {
+        let records = journal.records.into_iter();
+        let noted = records.filter(|record| !record.starts_with("clocks"));
+        noted.collect::<Vec<_>>()
+    };
+    let (mut old, day) = (noted(samples::old_writer()), noted(samples::clean()));
+    let last = old.pop().expect("records");
+    assert!(last.starts_with("journal closed"), "{last}");
+    assert!(old == day[..old.len()]);
+    assert!(day[old.len()].starts_with("start list of run 2"));
+}
+
 /// One record for each put, with the bytes of a batch as LevelDB lays it out: the put's number in 8
 /// bytes, how many puts the batch has in 4, both lowest first, then a 1 for a put, the key and the
 /// value, each after its length.
@@ -142,6 +184,7 @@ fn have_the_figures_of_their_readme() {
         ("torn", TORN),
         ("damaged", DAMAGED),
         ("leveldb", LEVELDB),
+        ("old_writer", OLD_WRITER),
     ];
     for (name, log) in files {
         let mut lines = readme.lines();
@@ -171,6 +214,7 @@ fn in_the_readme(answer: &Answer) -> Option<String> {
                 3 => "checksum",
                 4 => "interrupted",
                 5 => "orphan",
+                8 => "empty start",
                 _ => panic!("{answer:?} in a sample"),
             };
             let (start, end) = (grouped(start), grouped(end));

@@ -13,6 +13,7 @@ fn main() {
         ("clean.log", samples::clean().log),
         ("torn.log", samples::torn()),
         ("damaged.log", samples::damaged()),
+        ("old_writer.log", samples::old_writer().log),
     ];
     for (name, log) in files {
         let path = Path::new(&folder).join(name);

@@ -1,14 +1,14 @@
 //! A journal that is being written, and what was written into it.
 
-use crate::log::{append, Appended, BLOCK, HEADER};
+use crate::log::{append, fragment, Appended, BLOCK, FIRST, HEADER};
 
 /// Room for the whole day.
 const ROOM: usize = 5 * BLOCK;
 
 pub struct Journal {
     pub records: Vec<String>,
-    /// The used mark after each record.
-    marks: Vec<usize>,
+    /// Where each record starts and ends.
+    spans: Vec<(usize, usize)>,
     pub log: Vec<u8>,
 }
 
@@ -16,18 +16,40 @@ impl Journal {
     pub(super) fn new() -> Journal {
         Journal {
             records: Vec::new(),
-            marks: Vec::new(),
+            spans: Vec::new(),
             log: vec![0; ROOM],
         }
     }
 
     pub(super) fn write(&mut self, record: String) {
+        let (mark, left) = (self.mark(), self.left());
+        let trailer = if left < HEADER { left } else { 0 };
+        self.append(mark, mark + trailer, record);
+    }
+
+    pub(super) fn write_all(&mut self, records: Vec<String>) {
+        for record in records {
+            self.write(record);
+        }
+    }
+
+    /// Writes a record as early LevelDB writers did it where exactly a header's bytes are left: an
+    /// empty FIRST there, with which nothing goes on, and the record at the next block's start.
+    pub(super) fn write_afresh(&mut self, record: String) {
         let mark = self.mark();
+        let start = mark + HEADER;
+        assert_eq!(start % BLOCK, 0, "a header's bytes are left");
+        self.log[mark..start].copy_from_slice(&fragment(FIRST, b""));
+        self.append(start, start, record);
+    }
+
+    /// Appends a record at a mark; its first header is at this start.
+    fn append(&mut self, mark: usize, start: usize, record: String) {
         let answer = append(&mut self.log, mark, record.as_bytes());
-        let Appended::Mark(mark) = answer else {
+        let Appended::Mark(end) = answer else {
             panic!("{answer:?}, with room enough");
         };
-        self.marks.push(mark);
+        self.spans.push((start, end));
         self.records.push(record);
     }
 
@@ -56,17 +78,15 @@ impl Journal {
 
     /// Where a record starts and ends.
     pub fn span(&self, record: usize) -> (usize, usize) {
-        let before = if record == 0 {
-            0
-        } else {
-            self.marks[record - 1]
-        };
-        let left = BLOCK - before % BLOCK;
-        let trailer = if left < HEADER { left } else { 0 };
-        (before + trailer, self.marks[record])
+        self.spans[record]
+    }
+
+    /// How many bytes are left in the block.
+    pub(super) fn left(&self) -> usize {
+        BLOCK - self.mark() % BLOCK
     }
 
     fn mark(&self) -> usize {
-        self.marks.last().copied().unwrap_or(0)
+        self.spans.last().map_or(0, |&(_, end)| end)
     }
 }

@@ -1,6 +1,7 @@
-//! A race day, and three journals of it: whole, torn, and damaged. They are the files of the folder
-//! `samples/` at the repository's root. Racers, clubs, places and factors are invented, and a fixed
-//! generator makes the times, so that every run makes the same bytes.
+//! A race day, and four journals of it: whole, torn, damaged, and as an old writer would have left
+//! it. They are files of the folder `samples/` at the repository's root. Racers, clubs, places and
+//! factors are invented, and a fixed generator makes the times, so that every run makes the same
+//! bytes.
 //!
 //! This crate writes them and not the proved one, so that whoever reads them with the proved one
 //! compares two programs.
@@ -48,6 +49,11 @@ pub fn damaged() -> Vec<u8> {
     assert_ne!(digits[0], digits[1], "digits that can be told apart");
     digits.swap(0, 1);
     log
+}
+
+/// The day up to the end of the first run, as an early LevelDB writer would have left it.
+pub fn old_writer() -> Journal {
+    day::old_writer()
 }
 
 /// What LevelDB puts into a database for `samples/leveldb.log`: the day's factors, and what follows
