@@ -2,6 +2,8 @@
 //! log classes, where its library is installed.
 
 mod interop;
+#[path = "leveldb/old_writer.rs"]
+mod old_writer;
 mod random;
 
 use interop::leveldb;
@@ -99,13 +101,17 @@ fn read(log: &[u8]) -> Vec<Vec<u8>> {
 
 /// The same by the reader that is fed, in pieces of this length.
 fn fed(log: &[u8], length: usize) -> Vec<Vec<u8>> {
+    records_of(fed_answers(log, length))
+}
+
+fn fed_answers(log: &[u8], length: usize) -> Vec<Answer<'static>> {
     let (mut feed, mut answers) = (Feed::new(), Vec::new());
     for piece in log.chunks(length) {
         answers.extend(feed.push(piece).expect("no refusal"));
     }
     feed.end();
     answers.extend(feed.certain());
-    records_of(answers)
+    answers
 }
 
 fn records_of(mut answers: Vec<Answer>) -> Vec<Vec<u8>> {
