@@ -7,56 +7,76 @@ mod cuts;
 mod earliest;
 #[path = "feed_compare/edges.rs"]
 mod edges;
+#[path = "compare/forge.rs"]
+mod forge;
+#[path = "feed_compare/fragments.rs"]
+mod fragments;
 #[path = "compare/lent.rs"]
 mod lent;
 #[path = "feed_compare/logs.rs"]
 mod logs;
+#[path = "compare/made.rs"]
+mod made;
 // A part of it.
 #[allow(dead_code)]
 #[path = "compare/make.rs"]
 mod make;
+#[path = "compare/mixed.rs"]
+mod mixed;
+#[path = "compare/odd.rs"]
+mod odd;
 #[path = "feed_compare/orders.rs"]
 mod orders;
 #[path = "feed_compare/pair.rs"]
 mod pair;
 mod random;
+#[path = "compare/starts.rs"]
+mod starts;
 #[path = "feed_compare/states.rs"]
 mod states;
 #[path = "feed_compare/words.rs"]
 mod words;
 
+use made::Made;
 use random::Random;
 
-/// Compares on one kind of inputs, and gives the number of calls that were compared.
-type Part = fn(&mut Random) -> usize;
+/// Compares on one kind of inputs, and gives how much was compared.
+type Part = fn(&mut Random) -> Made;
 
-fn compare(part: Part, at_least: usize) {
+fn compare(part: Part, at_least: usize) -> Made {
     let mut random = Random::new();
     // Shown where the test fails.
     println!("{random}");
     let made = part(&mut random);
-    println!("{made} calls compared");
-    assert!(made >= at_least, "only {made} calls compared");
+    let calls = made.calls;
+    println!("{calls} calls compared");
+    assert!(calls >= at_least, "only {calls} calls compared");
+    made
 }
 
 #[test]
 fn on_logs_whole_cut_and_damaged() {
-    compare(logs::all, 100_000);
+    compare(logs::all, 100_000).has_met(8, 15);
+}
+
+#[test]
+fn on_fragments_as_no_writer_puts_them() {
+    compare(fragments::all, 100_000).has_met(1_000, 600);
 }
 
 #[test]
 fn on_all_ways_of_cutting_short_logs() {
-    compare(cuts::all, 200_000);
+    compare(cuts::all, 200_000).has_met(10_000, 5_000);
 }
 
 #[test]
 fn on_calls_in_any_order() {
-    compare(orders::all, 40_000);
+    compare(orders::all, 40_000).has_met(200, 120);
 }
 
 #[test]
 fn on_states_that_are_made_up() {
-    compare(states::all, 300_000);
+    compare(states::all, 300_000).has_met(1_500, 200);
 }
 
 #[test]
@@ -66,5 +86,5 @@ fn on_every_condition() {
 
 #[test]
 fn on_the_earliest_moment_by_its_definition() {
-    compare(earliest::all, 1_000);
+    compare(earliest::all, 1_000).has_met(15, 12);
 }

@@ -36,6 +36,8 @@ fn answered(call: impl FnOnce(&mut Numbers) -> u64) -> Numbers {
 #[test]
 fn on_100_000_calls() {
     let made = compare::everything(&Proved);
-    println!("{made} calls compared");
-    assert!(made >= 100_000, "only {made} calls compared");
+    let calls = made.calls;
+    println!("{calls} calls compared");
+    assert!(calls >= 100_000, "only {calls} calls compared");
+    made.has_met(5_000, 5_000);
 }

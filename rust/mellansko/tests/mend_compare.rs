@@ -7,6 +7,8 @@ mod both;
 mod edges;
 #[path = "mend_compare/exact.rs"]
 mod exact;
+#[path = "compare/forge.rs"]
+mod forge;
 #[path = "mend_compare/gathered.rs"]
 mod gathered;
 #[path = "compare/hurt.rs"]
@@ -19,6 +21,8 @@ mod lent;
 mod logs;
 #[path = "mend_compare/longest.rs"]
 mod longest;
+#[path = "compare/made.rs"]
+mod made;
 // A part of it.
 #[allow(dead_code)]
 #[path = "compare/make.rs"]
@@ -28,21 +32,26 @@ mod mixed;
 #[path = "compare/odd.rs"]
 mod odd;
 mod random;
+#[path = "compare/starts.rs"]
+mod starts;
 // A part of it.
 #[allow(dead_code)]
 #[path = "feed_compare/words.rs"]
 mod words;
 
 use both::Both;
+use made::Made;
 
 /// Compares on one kind of inputs, so many calls at least.
-fn compare(part: fn(&mut Both), at_least: usize) {
+fn compare(part: fn(&mut Both), at_least: usize) -> Made {
     let mut both = Both::new();
     // Shown where the test fails.
     println!("{}", both.random);
     part(&mut both);
-    println!("{} calls compared", both.made);
-    assert!(both.made >= at_least, "only {} calls compared", both.made);
+    let calls = both.made.calls;
+    println!("{calls} calls compared");
+    assert!(calls >= at_least, "only {calls} calls compared");
+    both.made
 }
 
 #[test]
@@ -52,7 +61,7 @@ fn on_journals_whole_and_cut() {
 
 #[test]
 fn on_journals_damaged() {
-    compare(logs::damaged, 1_000);
+    compare(logs::damaged, 1_000).has_met(15, 8);
 }
 
 #[test]
@@ -62,12 +71,17 @@ fn on_random_bytes() {
 
 #[test]
 fn on_fragments_as_no_writer_puts_them() {
-    compare(logs::odd, 10_000);
+    compare(logs::odd, 10_000).has_met(1_000, 600);
+}
+
+#[test]
+fn on_empty_starts() {
+    compare(logs::starts, 1_000).has_met(60, 50);
 }
 
 #[test]
 fn on_what_gathering_leaves_in_the_buffer() {
-    compare(gathered::all, 10_000);
+    compare(gathered::all, 10_000).has_met(250, 400);
 }
 
 #[test]

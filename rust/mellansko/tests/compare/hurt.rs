@@ -1,13 +1,14 @@
 //! Damage to a log: by chance, and as if by someone who knows the format.
 
+use super::forge::{forge, overwrite, start_empty};
 use super::make;
 use crate::random::Random;
-use reference::log::{fragment, BLOCK, HEADER};
+use reference::log::{BLOCK, HEADER};
 
 /// One piece of damage.
 pub fn hurt(random: &mut Random, log: &mut Vec<u8>, other: &[u8]) {
     let place = random.below(log.len());
-    match random.below(12) {
+    match random.below(14) {
         0 => log[place] ^= 1 << random.below(8),
         1 => log[place] = random.next() as u8,
         2 => {
@@ -24,6 +25,7 @@ pub fn hurt(random: &mut Random, log: &mut Vec<u8>, other: &[u8]) {
         6 => other_block(random, log, other),
         7 => overwrite(log, place, other),
         8 => log.truncate(place + 1),
+        9 | 10 => start_empty(random, log),
         _ => hurt_a_fragment(random, log),
     }
 }
@@ -50,7 +52,7 @@ fn hurt_a_fragment(random: &mut Random, log: &mut [u8]) {
         1 => log[place + 4] = random.next() as u8,
         2 => log[place + 6] = random.below(7) as u8,
         // Another type or length or both, and a checksum to match.
-        3 | 4 => forge(random, log, place),
+        3 | 4 => forge(random, log, place, &[0, 1, 2, 3, 4, 5, 129, 255]),
         // A copy of another fragment and what follows it.
         _ => {
             let from = make::pick(random, &headers);
@@ -58,21 +60,4 @@ fn hurt_a_fragment(random: &mut Random, log: &mut [u8]) {
             overwrite(log, place, &copy[..copy.len().min(BLOCK)]);
         }
     }
-}
-
-/// A fragment of any type and a length that may be the old one, around the data that stand there.
-fn forge(random: &mut Random, log: &mut [u8], place: usize) {
-    let room = (BLOCK - place % BLOCK).min(log.len() - place) - HEADER;
-    let old = usize::from(u16::from_le_bytes([log[place + 4], log[place + 5]]));
-    let any = random.below(room + 1);
-    let length = make::pick(random, &[old.min(room), any, room, 0]);
-    let kind = make::pick(random, &[0, 1, 2, 3, 4, 5, 129, 255]);
-    let data = log[place + HEADER..place + HEADER + length].to_vec();
-    overwrite(log, place, &fragment(kind, &data));
-}
-
-/// Puts bytes at a place, as many of them as the log has there.
-fn overwrite(log: &mut [u8], place: usize, bytes: &[u8]) {
-    let length = bytes.len().min(log.len() - place);
-    log[place..place + length].copy_from_slice(&bytes[..length]);
 }

@@ -1,24 +1,27 @@
 //! Logs made of fragments as no writer puts them: any type after any other, ending anywhere near a
 //! block's end, most of them with a right checksum.
 
-use super::odd::{kind_after, spoilt};
+use super::odd::{self, kind_after, spoilt};
 use crate::random::Random;
-use reference::log::{fragment, BLOCK, FULL, HEADER};
+use reference::log::{fragment, BLOCK, HEADER};
 
 /// Fragments up to some length, the last cut off by it. Those in the last block are short ones.
 pub fn log(random: &mut Random, length: usize) -> Vec<u8> {
     let mut log = Vec::new();
-    let mut kind = FULL;
+    let mut kind = odd::NONE;
     while log.len() < length {
         let left = BLOCK - log.len() % BLOCK;
         if left < HEADER {
             log.extend(random.bytes(left));
         } else {
-            kind = kind_after(random, kind);
+            kind = kind_after(random, kind, left);
             let room = left - HEADER;
-            let bytes = data_length(random, room, log.len() + left > length);
+            let bytes = match kind.empty {
+                true => 0,
+                false => data_length(random, room, log.len() + left > length),
+            };
             let data = random.bytes(bytes);
-            log.extend(spoilt(random, fragment(kind, &data), room, 32));
+            log.extend(spoilt(random, fragment(kind.number, &data), room, 32));
         }
     }
     log.truncate(length);

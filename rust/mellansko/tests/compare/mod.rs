@@ -5,19 +5,23 @@
 mod appends;
 mod cuts;
 mod damage;
+mod forge;
 mod fragments;
 mod hurt;
 mod lent;
+mod made;
 mod make;
 mod mixed;
 mod odd;
 mod refusals;
 mod sizes;
+mod starts;
 mod words;
 
 use crate::random::Random;
 use crate::strict::{self, Strict};
 use lent::Lent;
+pub use made::Made;
 use reference::log::{append, next, record_bytes, Appended, Next, HEADER, LONGEST_RECORD};
 
 /// The calls under test. Their answers are the ten words of the C interface. A trait, so that wrong
@@ -29,13 +33,13 @@ pub trait Calls {
     fn records(&self, log: &[u8], limit: usize) -> Strict;
 }
 
-/// Compares on everything there is here, and gives the number of calls that were compared.
-pub fn everything(calls: &dyn Calls) -> usize {
+/// Compares on everything there is here, and gives how much that was.
+pub fn everything(calls: &dyn Calls) -> Made {
     let mut comparison = Comparison {
         calls,
         random: Random::new(),
         part: "",
-        made: 0,
+        made: Made::default(),
     };
     // Shown where the test fails, wherever that is.
     println!("{}", comparison.random);
@@ -49,9 +53,9 @@ pub fn everything(calls: &dyn Calls) -> usize {
     ];
     for (part, all) in parts {
         comparison.part = part;
-        let before = comparison.made;
+        let before = comparison.made.calls;
         all(&mut comparison);
-        println!("{part}: {} calls", comparison.made - before);
+        println!("{part}: {} calls", comparison.made.calls - before);
     }
     comparison.made
 }
@@ -62,7 +66,7 @@ struct Comparison<'a> {
     calls: &'a dyn Calls,
     random: Random,
     part: &'static str,
-    made: usize,
+    made: Made,
 }
 
 /// One call to both.
@@ -71,7 +75,7 @@ impl Comparison<'_> {
         let record = Lent::new(record, &mut self.random);
         let words = self.calls.append(log.tested_mut(), mark, record.tested());
         let answer = append(log.expected_mut(), mark, record.expected());
-        self.made += 1;
+        self.made.calls += 1;
         let call = || {
             let (log, record) = (log.len(), record.len());
             self.name(&format!("append of {record} bytes at {mark} of {log}"))
@@ -87,7 +91,10 @@ impl Comparison<'_> {
             .calls
             .next(log.tested(), place, limit, buffer.tested_mut());
         let answer = next(log.expected(), place, limit, buffer.expected_mut());
-        self.made += 1;
+        self.made.calls += 1;
+        if let Next::Skip { reason, .. } = answer {
+            self.made.skipped(reason);
+        }
         let call = || {
             let (log, buffer) = (log.len(), buffer.len());
             self.name(&format!(
@@ -106,7 +113,8 @@ impl Comparison<'_> {
 
     /// What a failure prints, so that the call can be had again.
     fn name(&self, call: &str) -> String {
-        format!("{}, call {}, {}: {call}", self.part, self.made, self.random)
+        let calls = self.made.calls;
+        format!("{}, call {calls}, {}: {call}", self.part, self.random)
     }
 }
 

@@ -3,15 +3,55 @@
 use crate::random::Random;
 use reference::log::{FIRST, FULL, HEADER, LAST, MIDDLE};
 
-/// Mostly a type that a writer would go on with, so that records get long; else any.
-pub fn kind_after(random: &mut Random, last: u8) -> u8 {
-    let kinds: &[u8] = match (random.below(8), last) {
+/// A fragment's type, and whether it is one without data of an empty start (docs/FORMAT.md, §13).
+#[derive(Clone, Copy)]
+pub struct Kind {
+    pub number: u8,
+    pub empty: bool,
+}
+
+/// Before the first fragment.
+pub const NONE: Kind = some(FULL);
+
+const fn some(number: u8) -> Kind {
+    let empty = false;
+    Kind { number, empty }
+}
+
+const fn none(number: u8) -> Kind {
+    let empty = true;
+    Kind { number, empty }
+}
+
+/// Mostly a type that a writer would go on with, so that records get long; else any; and now and
+/// then the beginning of an empty start, most of all where few bytes of the block are left.
+pub fn kind_after(random: &mut Random, last: Kind, left: usize) -> Kind {
+    if last.empty {
+        return after_empty(random);
+    }
+    let one_in = if left < 3 * HEADER { 2 } else { 5 };
+    if random.below(one_in) == 0 {
+        return none(FIRST);
+    }
+    let kinds: &[u8] = match (random.below(8), last.number) {
         (0, _) => &[0, 5, 6, 128, 255],
         (1 | 2, _) => &[FULL, FIRST, MIDDLE, LAST],
         (_, FIRST | MIDDLE) => &[MIDDLE, MIDDLE, LAST],
         _ => &[FULL, FIRST, FIRST],
     };
-    kinds[random.below(kinds.len())]
+    some(kinds[random.below(kinds.len())])
+}
+
+/// Mostly what makes an empty start of it; else more of it, what a writer would go on with, or any
+/// other type.
+fn after_empty(random: &mut Random) -> Kind {
+    let kinds: &[u8] = match random.below(8) {
+        0 => return none(MIDDLE),
+        1 => &[MIDDLE, LAST],
+        2 | 3 => &[0, 5, 6, 128, 255],
+        _ => &[FULL, FIRST],
+    };
+    some(kinds[random.below(kinds.len())])
 }
 
 /// Mostly the fragment as it is: three in so many are spoilt.

@@ -3,7 +3,7 @@
 
 use super::lent::Lent;
 use super::Comparison;
-use reference::log::{fragment, Appended, BLOCK, FIRST, LAST, LONGEST_RECORD, MIDDLE};
+use reference::log::{fragment, Appended, BLOCK, FIRST, FULL, LAST, LONGEST_RECORD, MIDDLE};
 
 pub fn all(c: &mut Comparison) {
     near_a_block_end(c);
@@ -53,20 +53,23 @@ fn longest_records(c: &mut Comparison) {
     }
 }
 
-/// 140,000 fragments without a byte of data between the FIRST and the LAST, and over blocks' ends.
+/// 140,000 fragments without a byte of data between the first and the last, and over blocks' ends:
+/// a record, and one that is interrupted, an empty start if its FIRST is empty as well.
 fn empty_fragments(c: &mut Comparison) {
     let middle = fragment(MIDDLE, &[]);
-    let mut bytes = fragment(FIRST, &[1, 2, 3]);
-    while bytes.len() < 30 * BLOCK {
-        match BLOCK - bytes.len() % BLOCK {
-            left if left < middle.len() => bytes.resize(bytes.len() + left, 0xA5),
-            _ => bytes.extend(&middle),
+    for (data, last) in [(3, LAST), (0, LAST), (3, FULL), (0, FULL), (0, FIRST)] {
+        let mut bytes = fragment(FIRST, &[1, 2, 3][..data]);
+        while bytes.len() < 30 * BLOCK {
+            match BLOCK - bytes.len() % BLOCK {
+                left if left < middle.len() => bytes.resize(bytes.len() + left, 0xA5),
+                _ => bytes.extend(&middle),
+            }
         }
-    }
-    bytes.extend(fragment(LAST, &[4, 5, 6]));
-    let log = Lent::new(&bytes, &mut c.random);
-    let mut buffer = c.buffer(10);
-    for limit in [5, 6] {
-        c.next(&log, 0, limit, &mut buffer);
+        bytes.extend(fragment(last, &[4, 5, 6]));
+        let log = Lent::new(&bytes, &mut c.random);
+        let mut buffer = c.buffer(10);
+        for limit in [5, 6] {
+            c.next(&log, 0, limit, &mut buffer);
+        }
     }
 }

@@ -1,21 +1,28 @@
 //! All ways of cutting short logs into pieces: logs from place 0 on, and ends of blocks.
 
 use crate::logs::to_the_end;
+use crate::made::Made;
 use crate::pair::Pair;
 use crate::random::Random;
 use crate::words::Words;
 use reference::log::{fragment, BLOCK, FIRST, FULL, HEADER, LAST, MIDDLE};
 
-pub fn all(random: &mut Random) -> usize {
-    let mut made = 0;
+pub fn all(random: &mut Random) -> Made {
+    let mut made = Made::default();
     for log in short() {
         for limit in [0, 1, 3] {
             made += every_cut(&log, 0, false, limit, random);
         }
+        // After an empty FIRST, with data that are over the limit or not.
+        for limit in [0, 3] {
+            made += every_cut(&log, HEADER, true, limit, random);
+        }
     }
     for left in [1, 6, 7, 8, 10] {
         for log in short() {
-            made += every_cut(&log, BLOCK - left, random.below(2) == 0, 3, random);
+            for open in [false, true] {
+                made += every_cut(&log, BLOCK - left, open, 3, random);
+            }
         }
     }
     made
@@ -33,8 +40,8 @@ fn short() -> Vec<Vec<u8>> {
     logs
 }
 
-/// A log whose first byte is at this place, with or without a record open there.
-fn every_cut(log: &[u8], place: usize, open: bool, limit: u64, random: &mut Random) -> usize {
+/// A log whose first byte is at this place, with or without an empty record open there.
+fn every_cut(log: &[u8], place: usize, open: bool, limit: u64, random: &mut Random) -> Made {
     let mut pair = Pair::begun(limit as usize, random);
     let start = if open { place - HEADER } else { 0 };
     let [place, start] = [place, start].map(|number| number as u64);

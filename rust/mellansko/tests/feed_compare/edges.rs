@@ -1,17 +1,20 @@
 //! Every condition of a refusal at its edge and on both sides of it, alone and with others (§11.11).
 
 use crate::lent::Lent;
+use crate::made::Made;
 use crate::pair::Pair;
 use crate::random::Random;
 use crate::words::Words;
 use reference::log::{BLOCK, LONGEST_LOG, LONGEST_RECORD};
 
-pub fn all(random: &mut Random) -> usize {
-    limits(random) + lengths(random)
+pub fn all(random: &mut Random) -> Made {
+    let mut made = limits(random);
+    made += lengths(random);
+    made
 }
 
 /// Numbers 5 and 6, and 2 with the latter.
-fn limits(random: &mut Random) -> usize {
+fn limits(random: &mut Random) -> Made {
     let mut pair = Pair::new(LONGEST_RECORD + 2, random);
     for limit in around(LONGEST_RECORD).chain([0, 1, 100, usize::MAX]) {
         pair.begin(limit as u64);
@@ -30,7 +33,7 @@ fn limits(random: &mut Random) -> usize {
 
 /// Numbers 1, 2 and 20: pieces that take the log to its greatest length, one byte less and more,
 /// from all that may have come before them.
-fn lengths(random: &mut Random) -> usize {
+fn lengths(random: &mut Random) -> Made {
     let mut pair = Pair::begun(0, random);
     let mut piece = Lent::new(&vec![7; LONGEST_LOG + 2], random);
     let last = LONGEST_LOG - BLOCK;

@@ -1,12 +1,14 @@
 //! Logs of records, whole, cut and damaged, in pieces of all kinds.
 
+use crate::forge::start_empty;
+use crate::made::Made;
 use crate::make::{any_length, headers, pick, written_log};
 use crate::pair::{Pair, END};
 use crate::random::Random;
 use reference::log::{BLOCK, LONGEST_RECORD};
 
-pub fn all(random: &mut Random) -> usize {
-    let mut made = 0;
+pub fn all(random: &mut Random) -> Made {
+    let mut made = Made::default();
     for _ in 0..300 {
         let records = 1 + random.below(4);
         let mut log = written_log(random, records);
@@ -20,21 +22,23 @@ pub fn all(random: &mut Random) -> usize {
         };
         made += fed(&log, limit, random);
     }
-    made + in_drops(random)
+    made += in_drops(random);
+    made
 }
 
-/// A few bytes changed or a stretch of zeros, at a header or anywhere; or a cut.
+/// A few bytes changed or a stretch of zeros, at a header or anywhere; a cut; or an empty start.
 fn damage(log: &mut Vec<u8>, random: &mut Random) {
     let at = match &headers(log)[..] {
         headers @ [_, ..] if random.below(2) == 0 => pick(random, headers) + random.below(8),
         _ => random.below(log.len()),
     };
-    match random.below(4) {
+    match random.below(6) {
         0 => log.truncate(at.max(1)),
         1 => {
             let end = log.len().min(at + any_length(random, 16));
             log[at.min(end)..end].fill(0);
         }
+        2 | 3 => start_empty(random, log),
         _ => {
             let at = at.min(log.len() - 1);
             log[at] ^= 1 << random.below(8);
@@ -43,7 +47,7 @@ fn damage(log: &mut Vec<u8>, random: &mut Random) {
 }
 
 /// Pieces of any lengths, after some of which answers are drawn, all or a few.
-fn fed(log: &[u8], limit: usize, random: &mut Random) -> usize {
+pub fn fed(log: &[u8], limit: usize, random: &mut Random) -> Made {
     let mut pair = Pair::begun(limit, random);
     let mut rest = log;
     let bits = 6 + random.below(12);
@@ -75,8 +79,8 @@ pub fn to_the_end(pair: &mut Pair, random: &mut Random) {
 
 /// Byte by byte, with empty pieces in between: the beginnings of logs, and what is near the end of
 /// a block.
-fn in_drops(random: &mut Random) -> usize {
-    let mut made = 0;
+fn in_drops(random: &mut Random) -> Made {
+    let mut made = Made::default();
     for _ in 0..60 {
         let mut log = written_log(random, 5);
         damage(&mut log, random);

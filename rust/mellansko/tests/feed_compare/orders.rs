@@ -1,14 +1,19 @@
 //! Calls in any order, refused ones among them, with block and buffer altered in between.
 
+use crate::made::Made;
 use crate::make::{any_length, written_log};
+use crate::mixed;
 use crate::pair::Pair;
 use crate::random::Random;
 use reference::log::{LONGEST_LOG, LONGEST_RECORD};
 
-pub fn all(random: &mut Random) -> usize {
-    let mut made = 0;
-    for _ in 0..400 {
-        let log = written_log(random, 2);
+pub fn all(random: &mut Random) -> Made {
+    let mut made = Made::default();
+    for round in 0..400 {
+        let log = match round % 2 {
+            0 => written_log(random, 2),
+            _ => mixed::log(random, 2_000),
+        };
         let limit = any_length(random, 16);
         let mut pair = Pair::begun(limit, random);
         let alters = random.below(2) == 0;

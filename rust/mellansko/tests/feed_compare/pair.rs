@@ -1,6 +1,7 @@
 //! Both readers, which are lent the same.
 
 use crate::lent::Lent;
+use crate::made::Made;
 use crate::random::Random;
 use crate::words::Words;
 use mellansko::numbers::feed;
@@ -8,7 +9,7 @@ use reference::feed::{begin_words, end_words, next_words, take_words, Block};
 use reference::log::BLOCK;
 
 /// Kinds of the next answer (docs/FORMAT.md, §10.1, §11.14).
-pub const RECORD: u64 = 0;
+pub const SKIPPED: u64 = 1;
 pub const END: u64 = 2;
 pub const NOT_YET: u64 = 4;
 
@@ -16,8 +17,7 @@ pub struct Pair {
     pub state: Words,
     pub block: Lent,
     pub buffer: Lent,
-    /// How many calls were compared.
-    pub made: usize,
+    pub made: Made,
 }
 
 /// One call to both.
@@ -29,7 +29,7 @@ impl Pair {
             state: Words::new([(); 10].map(|()| random.next())),
             block: Lent::new(&block, random),
             buffer: Lent::new(&buffer, random),
-            made: 0,
+            made: Made::default(),
         }
     }
 
@@ -70,7 +70,7 @@ impl Pair {
         let before = self.state.get();
         feed::end(self.state.tested());
         end_words(self.state.expected());
-        self.made += 1;
+        self.made.calls += 1;
         let (tested, expected) = self.state.both();
         assert_eq!(tested, expected, "state, end at {before:?}");
     }
@@ -83,6 +83,9 @@ impl Pair {
         let kind = feed::next(self.state.tested(), block, buffer, answer.tested());
         let block = self::block(self.block.expected());
         let expected = next_words(self.state.expected(), block, self.buffer.expected_mut());
+        if let [SKIPPED, _, _, reason, ..] = expected {
+            self.made.skipped(reason as u8);
+        }
         let call = format!("next with a buffer of {}", self.buffer.len());
         self.same(&call, before, kind, answer, expected)
     }
@@ -96,9 +99,9 @@ impl Pair {
         mut answer: Words,
         expected: [u64; 10],
     ) -> [u64; 10] {
-        self.made += 1;
+        self.made.calls += 1;
         *answer.expected() = expected;
-        let call = || format!("{call} at {before:?}, call {}", self.made);
+        let call = || format!("{call} at {before:?}, call {}", self.made.calls);
         let (tested, expected_around) = answer.both();
         assert_eq!(tested, expected_around, "answer, {}", call());
         assert_eq!(kind, expected[0], "what is returned, {}", call());

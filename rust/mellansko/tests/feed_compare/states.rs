@@ -1,14 +1,15 @@
 //! States that are made up: of numbers that fit together, with one or more of them changed, and of
 //! any numbers.
 
+use crate::made::Made;
 use crate::make::{any_length, pick};
 use crate::pair::Pair;
 use crate::random::Random;
 use crate::words::Words;
 use reference::log::{fragment, BLOCK, HEADER, LONGEST_LOG, LONGEST_RECORD};
 
-pub fn all(random: &mut Random) -> usize {
-    let mut made = 0;
+pub fn all(random: &mut Random) -> Made {
+    let mut made = Made::default();
     for round in 0..200 {
         // Most limits fit a buffer that is short to compare; some take the longest.
         let most = if round % 20 == 0 { LONGEST_RECORD } else { 300 };

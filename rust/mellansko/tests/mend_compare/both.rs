@@ -1,9 +1,12 @@
 //! Both ways of mending, which are lent the same.
 
 use crate::lent::Lent;
+use crate::made::Made;
 use crate::random::Random;
 use crate::words::Words;
 use mellansko::numbers;
+use reference::feed::reading;
+use reference::log::Next;
 use reference::mend::mend_words;
 
 /// Kinds of the answer (docs/FORMAT.md, §12.10).
@@ -12,15 +15,15 @@ pub const REFUSED: u64 = 1;
 
 pub struct Both {
     pub random: Random,
-    /// How many calls were compared.
-    pub made: usize,
+    /// The calls that were compared, and the reasons of the logs that were examined.
+    pub made: Made,
 }
 
 impl Both {
     pub fn new() -> Both {
         Both {
             random: Random::new(),
-            made: 0,
+            made: Made::default(),
         }
     }
 
@@ -50,10 +53,10 @@ impl Both {
         let (slice, gathered) = (fresh.expected_mut(), buffer.expected_mut());
         let expected = mend_words(bad.expected(), slice, limit, gathered);
         *answer.expected() = expected;
-        self.made += 1;
+        self.made.calls += 1;
         let call = || {
             let lengths = [bad.len(), fresh.len(), buffer.len()];
-            let (made, random) = (self.made, &self.random);
+            let (made, random) = (self.made.calls, &self.random);
             format!("bad, fresh and buffer {lengths:?}, limit {limit}, call {made}, {random}")
         };
         let (tested, expected_around) = answer.both();
@@ -74,6 +77,11 @@ impl Both {
     /// A log at a limit: into a slice of its own length, of the mended one's, a few bytes more, and
     /// less: a byte, some, and all of them. The buffer is as long as the limit, or a little longer.
     pub fn examine(&mut self, bytes: &[u8], limit: usize) {
+        for answer in reading(bytes, limit) {
+            if let Next::Skip { reason, .. } = answer {
+                self.made.skipped(reason);
+            }
+        }
         let bad = Lent::new(bytes, &mut self.random);
         let [_, length, ..] = self.into(&bad, bytes.len(), limit, MENDED);
         let length = length as usize;

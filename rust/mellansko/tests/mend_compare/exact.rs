@@ -4,14 +4,15 @@
 use crate::both::Both;
 use crate::lay::lay;
 use crate::lent::Lent;
-use reference::log::{fragment, BLOCK, FULL, HEADER, MIDDLE};
+use reference::log::{fragment, BLOCK, FIRST, FULL, HEADER, MIDDLE};
 
 pub fn all(both: &mut Both) {
-    // Something that is skipped, so that the two logs' blocks end elsewhere: nothing, orphans, and
-    // a whole block of zeros.
+    // Something that is skipped, so that the two logs' blocks end elsewhere: nothing, orphans, an
+    // empty start, and a whole block of zeros.
     let orphans = [0, 1, 6].map(|length| fragment(MIDDLE, &vec![0xEE; length]));
     let [one, two, three] = orphans;
-    let skipped = [vec![], one, two, three, vec![0; BLOCK]];
+    let start = fragment(FIRST, b"");
+    let skipped = [vec![], one, two, three, start, vec![0; BLOCK]];
     for left in (0..16).chain([20, 30]) {
         for length in [0, 1, 6, 7, left, left + 8] {
             for before in &skipped {

@@ -1,6 +1,6 @@
 //! Several gathered records in one log, longer ones before shorter ones, so that it shows what each
 //! leaves in the buffer; with records in between that are whole, interrupted, over the limit or
-//! torn, which leave nothing there.
+//! torn, and empty starts, which leave nothing there.
 
 use crate::both::Both;
 use crate::lay::lay;
@@ -39,6 +39,10 @@ fn in_one_block(random: &mut Random) -> Vec<u8> {
             0 => log.extend(fragment(FULL, &record)),
             // Interrupted by what follows, or torn.
             1 => log.extend(fragment(FIRST, &record)),
+            2 => {
+                log.extend(fragment(FIRST, b""));
+                log.extend(fragment(MIDDLE, b"").repeat(random.below(3)));
+            }
             _ => in_fragments(random, &mut log, &record),
         }
     }

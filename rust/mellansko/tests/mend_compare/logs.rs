@@ -4,7 +4,7 @@
 use crate::both::Both;
 use crate::hurt::hurt;
 use crate::make::{any_length, headers, pick, written_log};
-use crate::mixed;
+use crate::{mixed, starts};
 use reference::log::{BLOCK, LONGEST_RECORD};
 
 /// At a limit that no record is above; at one that is about as high as a fragment's data, so that
@@ -73,5 +73,13 @@ pub fn odd(both: &mut Both) {
         let length = both.random.below(400) + blocks * BLOCK;
         let log = mixed::log(&mut both.random, length);
         at_limits(both, &log);
+    }
+}
+
+/// One empty start in each, near a block's end or elsewhere.
+pub fn starts(both: &mut Both) {
+    for _ in 0..300 {
+        let log = starts::log(&mut both.random);
+        both.examine(&log, BLOCK);
     }
 }

@@ -1,6 +1,6 @@
 //! Logs of fragments as no writer puts them: any type after any other, most of them sound.
 
-use crate::odd::{kind_after, spoilt};
+use crate::odd::{self, kind_after, spoilt};
 use crate::random::Random;
 use reference::log::{append, fragment, Appended, BLOCK, FIRST, FULL, HEADER};
 
@@ -26,7 +26,7 @@ pub fn near_the_end(random: &mut Random, before: usize, length: usize) -> Vec<u8
 
 /// Goes on with fragments and trailers up to a length, from where the log ends.
 pub fn add(random: &mut Random, log: &mut Vec<u8>, length: usize, most: usize) {
-    let mut kind = FULL;
+    let mut kind = odd::NONE;
     while log.len() < length {
         let left = BLOCK - log.len() % BLOCK;
         if left < HEADER {
@@ -34,14 +34,15 @@ pub fn add(random: &mut Random, log: &mut Vec<u8>, length: usize, most: usize) {
             continue;
         }
         let room = left - HEADER;
-        kind = kind_after(random, kind);
+        kind = kind_after(random, kind, left);
         let bytes = match random.below(8) {
+            _ if kind.empty => 0,
             0 => 0,
             1 => most.min(room),
             2 if room < 2 * most => room,
             _ => random.below(most.min(room) + 1),
         };
-        let sound = fragment(kind, &random.bytes(bytes));
+        let sound = fragment(kind.number, &random.bytes(bytes));
         log.extend(spoilt(random, sound, room, 20));
     }
     log.truncate(length);
