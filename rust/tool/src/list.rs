@@ -5,7 +5,7 @@ use crate::gaps::Gaps;
 use crate::rows::Rows;
 use crate::shell::typed;
 use crate::trouble::Trouble;
-use crate::words::{blocks, blocks_of, bytes, count, from_to, grouped};
+use crate::words::{self, bytes, count, grouped};
 use mellansko::{Reason, LONGEST_RECORD};
 use std::ffi::OsStr;
 
@@ -43,12 +43,9 @@ fn list(gap: &Gap, rows: &mut Rows) -> Result<(), Trouble> {
 }
 
 pub fn entry(range: &Doubt) -> String {
-    let (first, last) = blocks_of(range.start, range.end);
     format!(
-        "{} ({}, {}): {}",
-        from_to(range.start, range.end),
-        bytes(range.bytes()),
-        blocks(first, last),
+        "{}: {}",
+        words::range(range.start, range.end),
         match range.reason {
             Some(reason) => in_words(reason),
             None => "torn tail, the journal ends inside of what starts here".into(),

@@ -45,6 +45,17 @@ pub fn from_to(start: usize, end: usize) -> String {
     tied(&format!("bytes {} to {}", grouped(start), grouped(end)))
 }
 
+/// The same with a byte in it: where it is, how long, and in which blocks.
+pub fn range(start: usize, end: usize) -> String {
+    let (first, last) = blocks_of(start, end);
+    format!(
+        "{} ({}, {})",
+        from_to(start, end),
+        bytes(end - start),
+        blocks(first, last)
+    )
+}
+
 /// The first and the last of the blocks, counted from 1, that a range with a byte in it touches.
 pub fn blocks_of(start: usize, end: usize) -> (usize, usize) {
     (start / BLOCK + 1, (end - 1) / BLOCK + 1)
