@@ -1,7 +1,7 @@
 //! Where records are missing: all that is in doubt between two that can be read.
 
 use crate::words::{blocks, blocks_of, bytes, numbered};
-use mellansko::Reason;
+use mellansko::{Answer, Reason, Tail};
 
 /// A record that can be read: its number, from 1 on, and where it stands.
 #[derive(Clone, Copy, PartialEq, Eq)]
@@ -21,6 +21,24 @@ pub struct Doubt {
 }
 
 impl Doubt {
+    /// What is in doubt by an answer, where so many bytes have come. Every command asks here, so a
+    /// range that counts as no loss is in doubt for none of them.
+    pub fn by(answer: &Answer, came: usize) -> Option<Doubt> {
+        match *answer {
+            Answer::Skip(skip) => skip.reason.is_loss().then_some(Doubt {
+                start: skip.start,
+                end: skip.end,
+                reason: Some(skip.reason),
+            }),
+            Answer::End(Tail::Torn(start)) => Some(Doubt {
+                start,
+                end: came,
+                reason: None,
+            }),
+            Answer::Record { .. } | Answer::End(Tail::Clean) => None,
+        }
+    }
+
     pub fn bytes(&self) -> usize {
         self.end - self.start
     }
@@ -90,7 +108,7 @@ impl Gap {
                 numbered("number", before.number),
                 ends(before)
             ),
-            (None, None) => "from the first byte to the last".into(),
+            (None, None) => "with no readable record before it or after it".into(),
         };
         let (first, last) = blocks_of(self.start, self.end);
         let blocks = blocks(first, last);

@@ -92,8 +92,8 @@ only records that can be read are counted.
 
   --all   list every gap and every range, and not the first twenty alone
 
-If no damage is found, all that is in the file reads as records and nothing is torn. What no reader of this format can \
-tell:
+If no damage is found, all that is in the file reads as records, or as empty starts of records, \
+and nothing is torn. What no reader of this format can tell:
 
   - a cut exactly between two records; those after it are missing
   - blocks that are left out, repeated, or replaced by other sound blocks; records are then missing, there twice, or \
@@ -104,6 +104,11 @@ put together from pieces of several
 So compare the number of records, and where the last one stands, with what you expect. Full blocks that are equal \
 byte for byte, but not of one byte over and over, get a warning, since one may have been copied over another; the exit \
 status stays as it is.
+
+An empty start is a record that is begun with no bytes, and then begun again. Early LevelDB \
+writers left such starts at the ends of blocks, and they count as no damage: as far as a reader \
+can tell, nothing is lost. How many there are is said in a line of its own; mellansko dump lists \
+each. If no such writer wrote the journal, look there: a block that was left out may show so.
 
 A torn end may be the record that was being written when the power went. A damaged length in the last block \
 looks the same, and then records that were written to their end may lie there. A record of more than {RECORD} bytes \
@@ -127,7 +132,8 @@ Lists all that is in a journal in its order, one line each, with plain numbers:
 
   R START END LENGTH  a record: its place, and the number of its own bytes. The N-th of these lines is the record that \
 mellansko cat FILE N gives
-  S START END REASON  a range that is skipped since it is in doubt
+  S START END REASON  a range that is skipped. It is in doubt, unless the reason is 8, an empty \
+start
   E clean             the end
   E torn START        the end, with a torn tail from START on
   X NUMBER            refused; nothing else follows
@@ -169,8 +175,9 @@ mellansko map [--blocks N] [--color WHEN] FILE
 
 Draws a journal, a cell for each block of {BLOCK} bytes. Before each row stands its first block's number.
 
-  R   readable: every byte belongs to a record, or fills up the block after the last
-  D   in doubt: a skipped range has a byte here
+  R   readable: every byte belongs to a record, or to an empty start of one, or fills up the \
+block after the last
+  D   in doubt: a skipped range that is no empty start has a byte here
   T   torn: the torn tail has a byte here
   X   both
   -   between two cells: a record runs on from one into the other
@@ -242,7 +249,8 @@ mellansko mend BAD NEW
 Writes every record that can be read in the journal BAD, in order, into a new journal NEW. Says \
 how many records were kept, and what was left out: the first twenty gaps of BAD, each with its \
 first twenty ranges of bytes in doubt and the reasons. mellansko verify --all BAD lists every one. \
-A torn end is left out too, and so is a record of more than {RECORD} bytes.
+A torn end is left out too, and so is a record of more than {RECORD} bytes. Empty starts of \
+records are named in a line of their own, and count as no loss.
 
 Keep BAD, which is only read: NEW does not show that anything was lost, nor where. No damage will \
 be found in it. And what was lost is not in it: a record in a gap may have been newer than one \

@@ -6,6 +6,7 @@
 mod arguments;
 mod commands;
 mod disk;
+mod empty_starts;
 mod fed;
 mod gap;
 mod gaps;

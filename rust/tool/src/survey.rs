@@ -1,5 +1,6 @@
 //! What one reading of a journal finds.
 
+use crate::empty_starts::EmptyStarts;
 use crate::gap::{Doubt, Place};
 use crate::gaps::Gaps;
 use crate::walk::{Thing, Walk};
@@ -19,6 +20,8 @@ pub struct Survey {
     pub reasons: Vec<Reason>,
     /// Where the torn tail starts, if there is one.
     pub torn: Option<usize>,
+    /// What is skipped, and not in doubt.
+    pub empty_starts: EmptyStarts,
     /// What is in each block. A journal has at most 512 blocks, or it is refused.
     pub marks: Vec<Mark>,
 }
@@ -26,7 +29,7 @@ pub struct Survey {
 /// What is in a block.
 #[derive(Clone, Copy, Default)]
 pub struct Mark {
-    /// Whether a skipped range has a byte in it.
+    /// Whether a skipped range that is in doubt has a byte in it.
     pub doubt: bool,
     /// Whether the torn tail has.
     pub torn: bool,
@@ -48,12 +51,14 @@ impl Survey {
             gaps: Gaps::new(most),
             reasons: Vec::new(),
             torn: None,
+            empty_starts: EmptyStarts::default(),
             marks: Vec::new(),
         };
         while let Some(thing) = walk.next(&mut piece)? {
             match thing {
                 Thing::Record(place) => survey.record(place),
                 Thing::Doubt(range) => survey.doubt(range),
+                Thing::EmptyStart(range) => survey.empty_starts.add(range),
             }
         }
         survey.length = walk.came();
@@ -92,9 +97,11 @@ impl Survey {
         self.marks[first - 1..last].iter_mut().for_each(mark);
     }
 
-    /// Whether nothing in it reads as a record, not even as one that is too long to be read.
+    /// Whether nothing in it reads as a record, not even as one that is too long to be read, nor as
+    /// an empty start: after such a one the next stands, and the checksums of both are right.
     pub fn may_be_no_journal(&self) -> bool {
-        self.last.is_none() && !self.reasons.contains(&Reason::OverLimit)
+        let too_long = self.reasons.contains(&Reason::OverLimit);
+        self.last.is_none() && !too_long && self.empty_starts.are_none()
     }
 
     /// How many records can be read.
@@ -102,7 +109,8 @@ impl Survey {
         self.last.map_or(0, |last| last.number)
     }
 
-    /// How many bytes the skipped ranges have, without the torn tail.
+    /// How many bytes the skipped ranges have, without the torn tail and without empty starts: as
+    /// many as mending answers.
     pub fn skipped(&self) -> usize {
         let torn = self.torn.map_or(0, |start| self.length - start);
         self.gaps.bytes() - torn

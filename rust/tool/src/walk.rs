@@ -2,13 +2,15 @@
 
 use crate::fed::Fed;
 use crate::gap::{Doubt, Place};
-use mellansko::{Answer, NotRead, Record, Tail};
+use mellansko::{Answer, NotRead, Record, Skip};
 use std::io::Read;
 
 pub enum Thing {
     Record(Place),
-    /// A skipped range, or the torn tail.
+    /// A skipped range that is in doubt, or the torn tail.
     Doubt(Doubt),
+    /// A skipped range that counts as no loss.
+    EmptyStart(Skip),
 }
 
 pub struct Walk<'a, R> {
@@ -31,15 +33,16 @@ impl<'a, R: Read> Walk<'a, R> {
     /// is handed on.
     pub fn next(&mut self, mut piece: impl FnMut(&[u8])) -> Result<Option<Thing>, NotRead> {
         while !self.ended {
+            let came = self.fed.came();
             if let Some(answer) = self.fed.certain() {
+                let doubt = Doubt::by(&answer, came).map(Thing::Doubt);
                 return Ok(match answer {
                     Answer::Record { record, .. } => Some(self.record(&record)),
-                    Answer::Skip(skip) => Some(Thing::Doubt(Doubt {
-                        start: skip.start,
-                        end: skip.end,
-                        reason: Some(skip.reason),
-                    })),
-                    Answer::End(tail) => self.end(tail),
+                    Answer::Skip(skip) => doubt.or(Some(Thing::EmptyStart(skip))),
+                    Answer::End(_) => {
+                        self.ended = true;
+                        doubt
+                    }
                 });
             }
             let came = self.fed.read()?;
@@ -58,18 +61,6 @@ impl<'a, R: Read> Walk<'a, R> {
             start: record.start,
             end: record.end,
         })
-    }
-
-    fn end(&mut self, tail: Tail) -> Option<Thing> {
-        self.ended = true;
-        match tail {
-            Tail::Clean => None,
-            Tail::Torn(start) => Some(Thing::Doubt(Doubt {
-                start,
-                end: self.fed.came(),
-                reason: None,
-            })),
-        }
     }
 
     /// How many bytes have come.

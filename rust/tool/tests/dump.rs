@@ -4,7 +4,7 @@
 mod common;
 
 use common::damage::{long_logs, mixed_log, small_logs};
-use common::expect::{dumped, example, longest_log, written, Found};
+use common::expect::{dumped, example, longest_log, status_of_dump, written, Found};
 use common::files::Folder;
 use common::random::Random;
 use common::{fed, tool};
@@ -18,8 +18,8 @@ fn check(log: &[u8], limit: usize) {
     let expected = dumped(log, limit);
     assert_eq!(ran.text(), expected, "{limit} {log:x?}");
     assert_eq!(ran.err, "");
-    let clean = !expected.contains('S') && expected.ends_with("E clean\n");
-    assert_eq!(ran.status, Some(if clean { 0 } else { 1 }), "{expected}");
+    let status = status_of_dump(&expected);
+    assert_eq!(ran.status, Some(status), "{expected}");
 }
 
 #[test]

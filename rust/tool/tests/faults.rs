@@ -7,7 +7,7 @@ use common::expect::written;
 use common::files::Folder;
 use common::preload::{faults, with};
 use common::{fed, ran, tool, Ran};
-use reference::log::{fragment, FULL, LAST};
+use reference::log::{fragment, FIRST, FULL, LAST, MIDDLE};
 use std::fs;
 use std::path::Path;
 use std::process::Command;
@@ -126,5 +126,14 @@ fn a_list_that_is_longer_than_twenty_is_of_the_file_that_was_judged() {
     folder.file("log", &log.repeat(30));
     let changed = ran(&mut with(&library, &[("CHANGE", "log")], verify()));
     assert_eq!(changed.lines()[0], plain.lines()[0]);
+    changed.complained(2, &["log", "changed while it was read"]);
+    // Two empty starts, and then one as long as both.
+    let (first, middle) = (fragment(FIRST, b""), fragment(MIDDLE, b""));
+    folder.file("log", &[&first[..], &first, &log.repeat(30)].concat());
+    let one = [first, middle].concat();
+    let one: Vec<String> = one.iter().map(u8::to_string).collect();
+    let faults = [("CHANGE", "log"), ("CHANGE_TO", &one.join(" "))];
+    let changed = ran(&mut with(&library, &faults, verify()));
+    assert!(changed.lines()[1].starts_with("2 empty starts, 14 bytes"));
     changed.complained(2, &["log", "changed while it was read"]);
 }

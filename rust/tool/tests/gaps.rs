@@ -85,7 +85,7 @@ fn placed() -> [(Vec<u8>, &'static [&'static str]); 4] {
         ),
         (
             [orphan(), torn()].concat(),
-            &["from the first byte to the last"],
+            &["with no readable record before it or after it"],
         ),
     ]
 }

@@ -25,6 +25,7 @@ fn small_log() -> Vec<u8> {
     let unknown = fragment(9, b"?");
     let full = fragment(FULL, b"0.9137");
     let broken_off = fragment(FIRST, b"broken off");
+    let empty_start = fragment(FIRST, b"");
     let parts = [
         &full,
         &orphan,
@@ -33,6 +34,7 @@ fn small_log() -> Vec<u8> {
         &unknown,
         &broken_off,
         &full,
+        &empty_start,
         &first,
         &last,
     ];

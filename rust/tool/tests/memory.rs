@@ -6,7 +6,7 @@ use common::expect::longest_log;
 use common::files::Folder;
 use common::report::check;
 use common::{ran, Ran};
-use reference::log::{fragment, BLOCK, FULL, HEADER, LAST, LONGEST_LOG};
+use reference::log::{fragment, BLOCK, FIRST, FULL, HEADER, LAST, LONGEST_LOG};
 use std::process::{Command, Stdio};
 
 /// What the tool may take at all, its own program and the system's libraries among it: a third of
@@ -41,6 +41,9 @@ fn the_longest_journals_take_no_more_memory_than_a_third_of_them() {
         (of_empty_fragments(&[FULL, LAST], most), both, 1),
         (of_empty_fragments(&[FULL], most), &["verify"], 0),
         (of_empty_fragments(&[LAST], most), &["verify"], 1),
+        // Empty starts, of which nobody keeps a list: up to a torn end, and between records.
+        (of_empty_fragments(&[FIRST], most), both, 1),
+        (of_empty_fragments(&[FULL, FIRST], most), both, 0),
     ] {
         folder.file("log", &log);
         for command in commands {
@@ -54,7 +57,13 @@ fn the_longest_journals_take_no_more_memory_than_a_third_of_them() {
 #[test]
 fn a_list_of_all_gaps_takes_no_more_memory() {
     let folder = Folder::new("memory-all");
-    for types in [&[FULL, LAST][..], &[LAST]] {
+    for types in [
+        &[FULL, LAST][..],
+        &[LAST],
+        // With empty starts between gaps, and inside of one.
+        &[FULL, FIRST, FULL, LAST],
+        &[LAST, FIRST, FIRST, 9],
+    ] {
         let log = of_empty_fragments(types, 10);
         folder.file("log", &log);
         let ran = in_little_memory(&["verify", "--all", "log"], &folder);

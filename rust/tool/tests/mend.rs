@@ -7,7 +7,7 @@ use common::damage::{long_logs, mixed_log, small_logs};
 use common::expect::{count, dumped, example, mended, numbers, written, Found};
 use common::files::Folder;
 use common::random::Random;
-use common::report::{check_gaps, figures_of_doubt};
+use common::report::{check_empty_starts, check_gaps, figures_of_doubt};
 use common::{ran, tool, Ran};
 use reference::log::{fragment, BLOCK, FIRST, FULL, HEADER, LAST, MIDDLE};
 use reference::samples;
@@ -52,7 +52,7 @@ fn check_said(ran: &Ran, found: &Found, new: &[u8]) {
     }
     // Equal blocks may be warned of.
     lines.retain(|line| !line.starts_with("WARNING: "));
-    let rest = check_gaps(found, &lines[2..]);
+    let rest = check_gaps(found, check_empty_starts(found, &lines[2..]));
     assert!(!rest.iter().any(|line| line.starts_with("  - ")));
     let advice = rest.join(" ");
     assert_eq!(advice.contains(KEEP), !found.is_whole(), "{advice}");

@@ -183,13 +183,17 @@ fn of_many_damaged_logs_each_doubt_is_listed_and_nothing_else() {
     assert!(advice.contains("compare the records with what you expect"));
 }
 
-/// That the logs have every kind of doubt in them.
+/// That the logs have every kind of doubt in them, and empty starts with doubt and without it.
 fn check_reasons(logs: &[Vec<u8>]) {
     let found: Vec<Found> = logs.iter().map(|log| Found::in_log(log)).collect();
     let skips = found.iter().flat_map(|found| &found.skips);
     let reasons: BTreeSet<u8> = skips.map(|&(_, reason)| reason).collect();
     assert_eq!(reasons, BTreeSet::from([1, 2, 3, 4, 5, 6]));
     assert!(found.iter().any(|found| found.torn.is_some()));
+    for whole in [true, false] {
+        let has = |found: &Found| !found.empty_starts.is_empty() && found.is_whole() == whole;
+        assert!(found.iter().any(has), "{whole}");
+    }
 }
 
 #[test]

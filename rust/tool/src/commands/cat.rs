@@ -2,6 +2,7 @@
 
 mod harmless;
 
+use crate::gap::Doubt;
 use crate::journal::Source;
 use crate::output::Output;
 use crate::progress::Progress;
@@ -10,7 +11,7 @@ use crate::trouble::{note, Trouble};
 use crate::words::{count, grouped, records, shown};
 use crate::Status;
 use harmless::harmless;
-use mellansko::{Answer, Reading, Tail};
+use mellansko::{Answer, Reading};
 use std::io::{self, IsTerminal};
 
 /// The records that can be read are numbered from 1 on.
@@ -22,18 +23,13 @@ pub fn cat(source: &Source, number: usize, output: &mut Output) -> Result<Status
     let (mut before, mut after) = (0, 0);
     let mut changed = false;
     while let Some(answer) = reading.advance() {
-        let doubt = match answer {
-            Answer::Record { bytes: record, .. } => {
-                found += 1;
-                if found == number {
-                    changed = write(&record, output)?;
-                }
-                0
+        let doubt = Doubt::by(&answer, log.len()).map_or(0, |range| range.bytes());
+        if let Answer::Record { bytes: record, .. } = answer {
+            found += 1;
+            if found == number {
+                changed = write(&record, output)?;
             }
-            Answer::Skip(skip) => skip.end - skip.start,
-            Answer::End(Tail::Clean) => 0,
-            Answer::End(Tail::Torn(start)) => log.len() - start,
-        };
+        }
         *(if found < number {
             &mut before
         } else {

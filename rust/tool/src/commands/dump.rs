@@ -6,6 +6,7 @@ mod grown;
 pub use follow::follow;
 
 use crate::fed::Fed;
+use crate::gap::Doubt;
 use crate::journal::Source;
 use crate::output::Output;
 use crate::progress::Progress;
@@ -55,9 +56,10 @@ fn list(fed: &mut Fed<impl Read>, output: &mut Output) -> Result<Listed, Trouble
         status: Status::Done,
         ended: false,
     };
+    let came = fed.came();
     while let Some(answer) = fed.certain() {
         listed.ended = matches!(answer, Answer::End(_));
-        if matches!(answer, Answer::Skip(_) | Answer::End(Tail::Torn(_))) {
+        if Doubt::by(&answer, came).is_some() {
             listed.status = Status::Doubt;
         }
         let line = line(&answer);

@@ -2,12 +2,17 @@
 
 use super::expect::{add, written};
 use super::random::Random;
-use reference::log::{fragment, BLOCK, HEADER};
+use reference::log::{fragment, BLOCK, FIRST, HEADER};
 
-/// Small logs: every cut of one, every byte of it changed, random bytes, and sound fragments in any
-/// order with stretches that are none between them.
+/// Small logs: every cut of one with an empty start in it, every byte of it changed, random bytes,
+/// and sound fragments in any order with stretches that are none between them.
 pub fn small_logs(random: &mut Random) -> Vec<Vec<u8>> {
-    let log = written(&[&b""[..], b"1", b"LW10-1 0.9137", &[0; 30]]);
+    let log = [
+        written(&[&b""[..], b"1"]),
+        fragment(FIRST, b""),
+        written(&[&b"LW10-1 0.9137"[..], &[0; 30]]),
+    ]
+    .concat();
     let mut logs: Vec<Vec<u8>> = (0..=log.len()).map(|end| log[..end].to_vec()).collect();
     for place in 0..log.len() {
         for change in [1, 0x80, 1 + random.below(255) as u8] {
@@ -29,7 +34,8 @@ pub fn small_logs(random: &mut Random) -> Vec<Vec<u8>> {
 fn pieces(random: &mut Random) -> Vec<u8> {
     let mut log = Vec::new();
     for _ in 0..1 + random.below(6) {
-        let length = random.below(20);
+        // Often none, so that there are empty starts.
+        let length = random.below(2) * random.below(20);
         let data = random.bytes(length);
         let kind = [0, 1, 1, 2, 2, 3, 4, 4, 5, 255][random.below(10)];
         let mut piece = fragment(kind, &data);

@@ -6,13 +6,18 @@ use reference::log::{
 };
 use std::ops::Range;
 
+/// The only reason that counts as no loss.
+const EMPTY_START: u8 = 8;
+
 /// All that the reference finds in a log, with the highest limit.
 #[derive(Default)]
 pub struct Found {
     pub length: usize,
     pub records: Vec<(Range<usize>, Vec<u8>)>,
-    /// The ranges that are skipped, and the reasons.
+    /// The ranges that are skipped and in doubt, and the reasons.
     pub skips: Vec<(Range<usize>, u8)>,
+    /// Those that are skipped and not in doubt: they count as no loss (§13.5).
+    pub empty_starts: Vec<Range<usize>>,
     pub torn: Option<usize>,
 }
 
@@ -24,7 +29,10 @@ impl Found {
         };
         each_answer(log, LONGEST_RECORD, |answer, bytes| match *answer {
             Next::Record { start, end, .. } => found.records.push((start..end, bytes.to_vec())),
-            Next::Skip { start, end, reason } => found.skips.push((start..end, reason)),
+            Next::Skip { start, end, reason } => match reason {
+                EMPTY_START => found.empty_starts.push(start..end),
+                _ => found.skips.push((start..end, reason)),
+            },
             Next::End(Tail::Clean) => {}
             Next::End(Tail::Torn(start)) => found.torn = Some(start),
             Next::Refused { .. } => panic!("{answer:?} by the reference"),
@@ -112,6 +120,13 @@ pub fn dumped(log: &[u8], limit: usize) -> String {
     let mut lines = String::new();
     each_answer(log, limit, |answer, _| lines += &line(answer));
     lines
+}
+
+/// The status of a `dump` that writes these lines up to the end.
+pub fn status_of_dump(lines: &str) -> i32 {
+    let skips = lines.lines().filter(|line| line.starts_with('S'));
+    let doubt = skips.filter(|line| !line.ends_with(&format!(" {EMPTY_START}")));
+    i32::from(doubt.count() > 0 || !lines.ends_with("E clean\n"))
 }
 
 /// What `dump` is to have written of a log of which this has come, and of which more may come.

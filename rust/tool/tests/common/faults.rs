@@ -105,8 +105,8 @@ pub unsafe extern "C" fn flock(fd: c_int, how: c_int) -> c_int {
 }
 
 /// When a file has been read to its end, a byte is added to the one that GROW names, and the first
-/// one of the file that CHANGE names is changed. Files give no more than n bytes in all, and then
-/// fail, if BAD_FROM says an n.
+/// one of the file that CHANGE names is changed, or as many as CHANGE_TO has. Files give no more
+/// than n bytes in all, and then fail, if BAD_FROM says an n.
 #[no_mangle]
 pub unsafe extern "C" fn read(fd: c_int, to: *mut c_void, mut most: usize) -> isize {
     static mut GIVEN: usize = 0;
@@ -125,10 +125,17 @@ pub unsafe extern "C" fn read(fd: c_int, to: *mut c_void, mut most: usize) -> is
         }
         if let Some(path) = env::var_os("CHANGE") {
             let other = OpenOptions::new().write(true).open(path);
-            let _ = other.and_then(|mut file| file.write_all(b"x"));
+            let _ = other.and_then(|mut file| file.write_all(&changed()));
         }
     }
     got
+}
+
+/// The bytes whose numbers CHANGE_TO has, with spaces between them.
+fn changed() -> Vec<u8> {
+    let numbers = env::var("CHANGE_TO").unwrap_or("120".into());
+    let number = |word: &str| word.parse().expect("a byte's number");
+    numbers.split(' ').map(number).collect()
 }
 
 /// Files take no more than n bytes in all, if ROOM says an n.

@@ -3,7 +3,7 @@
 use super::expect::{block_numbers, numbers, Found, Gap};
 use reference::log::BLOCK;
 
-/// As docs/FORMAT.md names the reasons, §4.7.
+/// As docs/FORMAT.md names the reasons for doubt, §4.7.
 const NAMES: [&str; 7] = [
     "bad length",
     "blank",
@@ -14,13 +14,33 @@ const NAMES: [&str; 7] = [
     "over the limit",
 ];
 
-/// Holds the lines on one journal to the reference: the answer, and each gap with its ranges. Gives
-/// those after them.
+/// Holds the lines on one journal to the reference: the answer, what is said of empty starts, and
+/// each gap with its ranges. Gives those after them.
 pub fn check<'a>(name: &str, log: &[u8], lines: &'a [&'a str]) -> &'a [&'a str] {
     let found = Found::in_log(log);
     let verdict = lines[0].strip_prefix(name).expect(name);
     check_verdict(verdict, &found);
-    check_gaps(&found, &lines[1..])
+    check_gaps(&found, check_empty_starts(&found, &lines[1..]))
+}
+
+/// Holds the line on empty starts, which is there if there are any, and once. Gives those after it.
+pub fn check_empty_starts<'a>(found: &Found, lines: &'a [&'a str]) -> &'a [&'a str] {
+    let said = lines.iter().take_while(|line| line.contains("empty start"));
+    assert_eq!(said.count(), usize::from(!found.empty_starts.is_empty()));
+    let Some(first) = found.empty_starts.first() else {
+        return lines;
+    };
+    let bytes = found.empty_starts.iter().map(|range| range.len()).sum();
+    let mut expected = match found.empty_starts.len() {
+        1 => vec![1],
+        number => vec![number, bytes],
+    };
+    expected.extend([first.start, first.end, first.len()]);
+    expected.extend(block_numbers(first));
+    expected.push(8);
+    assert_eq!(numbers(lines[0]), expected, "{}", lines[0]);
+    assert!(lines[0].contains(" (reason 8, empty start)."));
+    &lines[1..]
 }
 
 /// Holds a list of all gaps, each with its ranges. Gives the lines after it.
@@ -116,7 +136,7 @@ pub fn check_heading(line: &str, gap: &Gap, found: &Found) {
             ", after the last readable record, ",
             vec![gap.before, before.end],
         ),
-        (None, None) => (", from the first byte to the last", vec![]),
+        (None, None) => (", with no readable record before it or after it", vec![]),
     };
     let mut expected = vec![gap.bytes()];
     expected.extend(block_numbers(&gap.span()));

@@ -20,11 +20,16 @@ pub fn tell(mending: &Mending, mut output: Output) -> Result<(), Trouble> {
     let answer = [kept(mending), lost(mending)];
     let mut rows = Rows::new(screen, &mut output);
     answer.iter().try_for_each(|line| rows.entry(line))?;
-    // Where the blocks of the new journal begin elsewhere, it does not show there.
-    if let Some(warning) = mending.twins.warning() {
-        rows.entry(&warning)?;
-    }
-    list::gaps(&mending.survey.gaps, mending.names.bad, &mut rows)?;
+    // Where the blocks of the new journal begin elsewhere, the warning does not show there.
+    let survey = &mending.survey;
+    let starts = survey.empty_starts.line();
+    let starts = starts.map(|line| format!("{line} The new journal has none."));
+    let lines = [mending.twins.warning(), starts];
+    lines
+        .iter()
+        .flatten()
+        .try_for_each(|line| rows.entry(line))?;
+    list::gaps(&survey.gaps, mending.names.bad, &mut rows)?;
     let (rows, advice) = (rows.number, advice(mending, screen));
     if rows + advice.rows.len() > screen.rows {
         let mut again = Page::new(screen);

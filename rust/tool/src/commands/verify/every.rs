@@ -5,6 +5,7 @@
 //! other comes after it to list the ranges. Neither keeps any.
 
 use super::Finding;
+use crate::empty_starts::EmptyStarts;
 use crate::fed::Fed;
 use crate::gap::{Doubt, Gap, Place};
 use crate::gaps::Gaps;
@@ -24,7 +25,7 @@ pub fn gaps(finding: &Finding, rows: &mut Rows) -> Result<(), Trouble> {
         finding,
         rows,
     };
-    let mut all = Gaps::new(0);
+    let (mut all, mut empty_starts) = (Gaps::new(0), EmptyStarts::default());
     let (mut open, mut last): (Option<Gap>, _) = (None, None);
     while let Some(thing) = ahead.next(|_| {}).map_err(not_read)? {
         match thing {
@@ -38,11 +39,13 @@ pub fn gaps(finding: &Finding, rows: &mut Rows) -> Result<(), Trouble> {
                 listing.list(open.take(), Some(place))?;
                 last = Some(place);
             }
+            Thing::EmptyStart(range) => empty_starts.add(range),
         }
     }
     listing.list(open, None)?;
     let told = &finding.survey;
-    let same = (all.number(), all.bytes()) == (told.gaps.number(), told.gaps.bytes());
+    let same = (all.number(), all.bytes()) == (told.gaps.number(), told.gaps.bytes())
+        && empty_starts == told.empty_starts;
     match same && (last, ahead.came()) == (told.last, told.length) {
         true => Ok(()),
         false => Err(changed(finding)),
@@ -97,7 +100,7 @@ impl Listing<'_, '_> {
             let thing = self.after.next(|_| {});
             match thing.map_err(|why| self.finding.source.not_read(why))? {
                 Some(Thing::Doubt(range)) => return Ok(range),
-                Some(Thing::Record(_)) => {}
+                Some(Thing::Record(_) | Thing::EmptyStart(_)) => {}
                 None => return Err(changed(self.finding)),
             }
         }
