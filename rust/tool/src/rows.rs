@@ -26,6 +26,12 @@ impl<'a> Rows<'a> {
         self.write(|page| page.entry(text))
     }
 
+    /// As entries, those that there are.
+    pub fn entries(&mut self, texts: &[Option<String>]) -> Result<(), Trouble> {
+        let mut texts = texts.iter().flatten();
+        texts.try_for_each(|text| self.entry(text))
+    }
+
     /// As one of several points that belong to the entry before.
     pub fn point(&mut self, text: &str) -> Result<(), Trouble> {
         self.write(|page| page.point(text))

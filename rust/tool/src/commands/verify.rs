@@ -79,11 +79,7 @@ impl Finding<'_> {
     fn report(&self, all: bool, screen: Screen, output: &mut Output) -> Result<usize, Trouble> {
         let mut rows = Rows::new(screen, output);
         rows.entry(&self.verdict())?;
-        let lines = [self.twins.warning(), self.survey.empty_starts.line()];
-        lines
-            .iter()
-            .flatten()
-            .try_for_each(|line| rows.entry(line))?;
+        rows.entries(&[self.twins.warning(), self.survey.empty_starts.line()])?;
         match all && self.survey.gaps.are_hidden() {
             true => every::gaps(self, &mut rows)?,
             false => list::gaps(&self.survey.gaps, self.source.word(), &mut rows)?,

@@ -24,11 +24,7 @@ pub fn tell(mending: &Mending, mut output: Output) -> Result<(), Trouble> {
     let survey = &mending.survey;
     let starts = survey.empty_starts.line();
     let starts = starts.map(|line| format!("{line} The new journal has none."));
-    let lines = [mending.twins.warning(), starts];
-    lines
-        .iter()
-        .flatten()
-        .try_for_each(|line| rows.entry(line))?;
+    rows.entries(&[mending.twins.warning(), starts])?;
     list::gaps(&survey.gaps, mending.names.bad, &mut rows)?;
     let (rows, advice) = (rows.number, advice(mending, screen));
     if rows + advice.rows.len() > screen.rows {
