@@ -4,8 +4,9 @@
  * A log is bytes that the caller lends, in blocks of 32,768 from the first on. A record is 0 to
  * 262,144 bytes of the caller's. It is stored as one or more fragments, each a header of 7 bytes
  * and then data. None crosses a block's end; if fewer than 7 bytes are left before it, they are a
- * trailer, no part of a record. A record's span is the range of its fragments, headers included.
- * docs/FORMAT.md has the rules, and numbers here, as 3.7, are that page's.
+ * trailer, which holds nothing of a record and has to be zeros. A record's span is the range of its
+ * fragments, headers included. docs/FORMAT.md has the rules, and numbers here, as 3.7, are that
+ * page's.
  *
  * The mark is how many bytes of a log are used: mellansko_append writes a record there and answers
  * the new mark. A place is where mellansko_next reads: 0, and then what the last answer says. It
@@ -181,27 +182,34 @@ enum mellansko_stored {
 /*
  * A skip's reason (4.7). With any but MELLANSKO_EMPTY_START its range is in doubt: what was written
  * there can't be trusted, or can't be handed out. With reasons 1 to 3 all that is left of the
- * block, or of a log that ends sooner, is skipped: it may be the length that is damaged.
+ * block, or of a log that ends sooner, is skipped: it may be the length that is damaged. Reason 9
+ * goes as far, but has 1 to 6 bytes; every other range has 7 at least.
  */
 enum mellansko_reason {
     MELLANSKO_BAD_LENGTH = 1,    /* the header's length runs past the end of the block */
     MELLANSKO_BLANK = 2,         /* the header's type and length are both 0 */
     MELLANSKO_CHECKSUM = 3,      /* the header's checksum is not that of its type and data */
     MELLANSKO_INTERRUPTED = 4,   /* a record that is begun and not finished, and no empty start, up
-                                    to what stands where its next fragment should; the next call
-                                    answers for that */
+                                    to what stands where its next fragment should, or to a dirty
+                                    trailer before that; the next call answers for what it goes up
+                                    to */
     MELLANSKO_ORPHAN = 5,        /* one fragment, which continues a record that was not begun */
     MELLANSKO_UNKNOWN_TYPE = 6,  /* one fragment, of a type that the format does not have */
     MELLANSKO_OVER_LIMIT = 7,    /* a record, up to the end of the fragment that takes it above the
                                     limit; sound fragments of it after that one are orphans */
-    MELLANSKO_EMPTY_START = 8    /* a record that is begun and has no bytes so far, up to a sound
+    MELLANSKO_EMPTY_START = 8,   /* a record that is begun and has no bytes so far, up to a sound
                                     fragment that begins a record; the next call answers for that.
                                     Early LevelDB writers began a record again like that (13) */
+    MELLANSKO_DIRTY_TRAILER = 9  /* a trailer that is not all zeros, up to the end of the block or
+                                    of the log. In a log read from place 0 no record has a byte in
+                                    it; something wrote where only zeros belong (14) */
 };
 
 /*
- * Whether something may be lost with a skip of this reason: 0 for MELLANSKO_EMPTY_START, and 1 for
- * any other number. Where it is 0, nothing is, as far as a reader can tell (13.5, 13.6).
+ * Whether a skip of this reason is in doubt, since something may be lost there: 0 for
+ * MELLANSKO_EMPTY_START, and 1 for any other number. Where it is 0, nothing is, as far as a reader
+ * can tell (13.5, 13.6). It is 1 for MELLANSKO_DIRTY_TRAILER too: no record has a byte there, but
+ * whatever wrote there may have done more.
  */
 static inline int mellansko_reason_is_loss(uint64_t reason)
 {
@@ -260,9 +268,11 @@ uint64_t mellansko_append(uint8_t *log, size_t log_len, size_t mark, const uint8
  * All but a refusal have a place to go on from (4.2): that of a record or a skip is its end, that
  * of a clean end log_len, and that of a torn one the tail's start. To read a log, call at place 0
  * and then at each answer's place, up to the end. After a record or a skip it is greater by 7 at
- * least, so that takes log_len / 7 + 1 calls at most (6.3). Every byte is then in exactly one span,
- * skipped range or torn tail, or in a trailer outside of these (6.2). A call at any other place
- * reads a header where there may be none.
+ * least, but for MELLANSKO_DIRTY_TRAILER by 1 at least, and no block has more than one of these. So
+ * that takes log_len / 7 + 1 calls at most, and one more for each block that the log reaches into
+ * (6.3). Every byte is then in exactly one span, skipped range or torn tail, or is a zero of a
+ * trailer outside of these (6.2, 14.4). A call at any other place reads a header where there may be
+ * none.
  *
  * Do not treat what is torn as never written, nor what is skipped, unless mellansko_reason_is_loss
  * gives 0 for the reason. A torn tail may be the record that was being written when the power went.
@@ -289,7 +299,7 @@ struct mellansko_feed {
     uint64_t opened;    /* 1 if a record is open: begun, and not finished yet; else 0 */
     uint64_t start;     /* where the open record started; 0 if none is open */
     uint64_t length;    /* how many bytes of it the buffer holds; 0 if none is open */
-    uint64_t bad;       /* the reason to skip from the place on, if it is seen already; else 0 */
+    uint64_t bad;       /* the reason, 1 to 3, to skip from the place on, if it is seen; else 0 */
     uint64_t later[2];  /* begin sets them to 0, and no other call reads or changes them */
 };
 
@@ -365,9 +375,10 @@ void mellansko_feed_end(struct mellansko_feed *feed);
  *   MELLANSKO_NOT_YET        nothing more is certain before another byte, or the end
  *
  * A sound fragment is dealt with when its last byte has come. One that is bad waits, with no record
- * open, for the end of its block or of the log, since all up to there is skipped (11.8). The block
- * is only read. In the buffer the open record's bytes are gathered, and they stay there if it turns
- * out to be skipped; no other byte is changed.
+ * open, for the end of its block or of the log, since all up to there is skipped (11.8). A trailer
+ * waits for that too; but the first byte of it that is not zero interrupts a record that is open.
+ * The block is only read. In the buffer the open record's bytes are gathered, and they stay there if
+ * it turns out to be skipped; no other byte is changed.
  *
  * The feed goes on by itself after an answer. After an end it stays, and answers that end again.
  * What is torn, or skipped with a loss, is not to be treated as never written: see mellansko_next.
@@ -403,7 +414,8 @@ uint64_t mellansko_feed_next(struct mellansko_feed *feed, const uint8_t block[ME
  * A mended log does not show that anything was lost, nor where: it reads as whole (12.8). Where
  * something is missing, though not what, is said by a reading of the bad log, as far as a reader
  * can tell (8). mended.skipped does not count a torn tail: it is 0 too if that is all that was
- * lost. So keep the bad log.
+ * lost. It counts a dirty trailer, in which no record has a byte: it is not 0 if that is all that
+ * was wrong. So keep the bad log.
  */
 MELLANSKO_KEEP MELLANSKO_NOT_NULL
 uint64_t mellansko_mend(const uint8_t *bad, size_t bad_len, uint8_t *fresh, size_t fresh_len,
@@ -435,6 +447,7 @@ static inline const char *mellansko_reason_text(uint64_t reason)
     case MELLANSKO_OVER_LIMIT: return "a record longer than the limit";
     case MELLANSKO_EMPTY_START:
         return "an empty start: a record begun with no bytes, and then begun again";
+    case MELLANSKO_DIRTY_TRAILER: return "the bytes that fill up a block are not all zero";
     default: return "a number that is no reason's";
     }
 }

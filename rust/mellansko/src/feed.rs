@@ -223,7 +223,7 @@ impl Feed {
     }
 
     /// The place up to which all has been answered for: every byte before it is in a record or
-    /// range that was answered, or in a trailer.
+    /// range that was answered, or is a zero of a trailer.
     #[inline]
     #[must_use]
     pub fn place(&self) -> usize {

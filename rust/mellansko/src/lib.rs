@@ -25,8 +25,8 @@
 //!
 //! [`Reading`] is the way to see all that is in a log, damaged or not. It goes from the first byte to
 //! the end, and says which bytes are records, which are skipped and why, and where a torn tail starts;
-//! what is left are trailers, up to six bytes that fill up a block. What is skipped is in doubt, unless
-//! its reason is [no loss](Reason::is_loss):
+//! what is left are trailers of zeros, up to six that fill up a block. What is skipped is in doubt,
+//! unless its reason is [no loss](Reason::is_loss):
 //!
 //! ```
 //! use mellansko::{Answer, Reading};
@@ -88,7 +88,7 @@
 //! # What is promised
 //!
 //! Of the calls that this crate links this is proved. `docs/FORMAT.md` of the repository has the exact
-//! words (§5 to §7, §11.12, §12), and `docs/PROOF.md` says what the proof rests on:
+//! words (§5 to §7, §11.12, §12, §14.4), and `docs/PROOF.md` says what the proof rests on:
 //!
 //! - Whatever it is lent, each call ends and does nothing undefined. One that is refused changes no
 //!   lent byte.
@@ -97,8 +97,8 @@
 //! - If such a log is cut anywhere, the records that end at the cut or before it come out as written,
 //!   and one that it falls into is a torn tail. If any bytes of one block are changed, and the length
 //!   stays, the records with no byte in that block come out as written.
-//! - Of any log, every byte is in exactly one record's span, skipped range or torn tail, or in a
-//!   trailer outside of these.
+//! - Of any log, every byte is in exactly one record's span, skipped range or torn tail, or is a zero
+//!   of a trailer outside of these.
 //! - A log that is fed in pieces, wherever they are cut, has the answers of the whole log. Each is
 //!   given as early as can be: as soon as all logs have it that begin with what has come.
 //! - Mending a log, of any 16,777,216 bytes or fewer, makes one that is no longer than it. With the

@@ -11,7 +11,8 @@ pub struct Mended {
     pub length: usize,
     /// How many bytes of the bad log are in the ranges that were skipped, all together, but for
     /// [empty starts](crate::Reason::EmptyStart), which are [no loss](crate::Reason::is_loss). Those of
-    /// a torn tail are not among them, so this may be 0 although something was lost.
+    /// a torn tail are not among them, so this may be 0 although something was lost. Those of a
+    /// [dirty trailer](crate::Reason::DirtyTrailer) are, though no record has a byte there.
     pub skipped: usize,
 }
 

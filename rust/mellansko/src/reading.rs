@@ -7,7 +7,7 @@ use std::fmt;
 use std::iter::FusedIterator;
 
 /// The answers of a log from place 0 on, in order; the last is its end. Their ranges lie one after
-/// the other, with at most a trailer of up to six bytes between two.
+/// the other, with at most a trailer of up to six zeros between two.
 ///
 /// As an iterator it hands out records with bytes of their own where they had to be gathered;
 /// [`advance`](Reading::advance) lends them instead. A program that can only use a log in which
@@ -114,7 +114,7 @@ impl<'log> Reading<'log> {
         })
     }
 
-    /// The place to go on from: every byte before it has been answered for, or is in a trailer.
+    /// The place to go on from: every byte before it has been answered for, or is a zero of a trailer.
     #[inline]
     #[must_use]
     pub fn place(&self) -> usize {

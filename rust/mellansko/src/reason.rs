@@ -3,8 +3,9 @@
 use std::fmt;
 
 /// Why a range is skipped. The first three range from a header to the end of the block or of the
-/// log, whichever is sooner, since the length may be the damaged part. They are ordered by their
-/// numbers, and more may come.
+/// log, whichever is sooner, since the length may be the damaged part. A dirty trailer ends there
+/// too, but has 1 to 6 bytes; every other range has 7 at least. They are ordered by their numbers,
+/// and more may come.
 #[derive(Clone, Copy, Debug, PartialEq, Eq, PartialOrd, Ord, Hash)]
 #[non_exhaustive]
 pub enum Reason {
@@ -15,7 +16,7 @@ pub enum Reason {
     /// The header's checksum is not that of its type and data.
     Checksum = 3,
     /// A record that is begun and not finished, and no empty start, up to what stands where its next
-    /// fragment should. The next answer is for that.
+    /// fragment should, or to a dirty trailer before that. The next answer is for what it goes up to.
     Interrupted = 4,
     /// One fragment, which continues a record that is not begun.
     Orphan = 5,
@@ -28,6 +29,10 @@ pub enum Reason {
     /// The next answer is for that. Early LevelDB writers began a record again like that, where
     /// exactly 7 bytes were left in a block (`docs/FORMAT.md`, §13). It is [no loss](Reason::is_loss).
     EmptyStart = 8,
+    /// A trailer, the up to six bytes that fill up a block where no header fits, that is not all
+    /// zeros: up to the end of the block or of the log. In a log that is read from place 0 no record
+    /// has a byte in it; something wrote where only zeros belong (`docs/FORMAT.md`, §14).
+    DirtyTrailer = 9,
 }
 
 impl Reason {
@@ -41,6 +46,7 @@ impl Reason {
         Reason::UnknownType,
         Reason::OverLimit,
         Reason::EmptyStart,
+        Reason::DirtyTrailer,
     ];
 
     /// The reason's number, from 1 on.
@@ -61,13 +67,15 @@ impl Reason {
             Reason::UnknownType => "unknown type",
             Reason::OverLimit => "over the limit",
             Reason::EmptyStart => "empty start",
+            Reason::DirtyTrailer => "dirty trailer",
         }
     }
 
-    /// Whether something may be lost with the range, which is then in doubt. With an
+    /// Whether the range is in doubt, since something may be lost there. With an
     /// [empty start](Reason::EmptyStart) nothing is, as far as a reader
-    /// [can tell](crate#what-no-reader-of-this-format-can-tell); with every other range something
-    /// may be.
+    /// [can tell](crate#what-no-reader-of-this-format-can-tell); every other range is in doubt. That
+    /// goes for a [dirty trailer](Reason::DirtyTrailer) too: no record has a byte in it, but whatever
+    /// wrote there may have done more.
     ///
     /// ```
     /// use mellansko::{Answer, Reading, Reason};
@@ -110,6 +118,7 @@ impl fmt::Display for Reason {
             Reason::EmptyStart => {
                 "an empty start: a record begun with no bytes, and then begun again"
             }
+            Reason::DirtyTrailer => "the bytes that fill up a block are not all zero",
         })
     }
 }
