@@ -1,5 +1,6 @@
-// The steps that the programs run_edges, run_example and run_reasons are lists of: calls of the writer and the reader, with the
-// lines that tell what they answer, and changes of bytes, which write no line. What writes words and numbers serves run_feed as well.
+// The steps that the programs run_edges, run_example, run_reasons and run_trailers are lists of: calls of the writer and the
+// reader, with the lines that tell what they answer, and changes of bytes, which write no line. What writes words and numbers
+// serves run_feed as well.
 //
 // No contract can say what is written. rust/reference has the same steps, and what it writes is what the programs are held to.
 mod call;

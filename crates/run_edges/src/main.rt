@@ -1,7 +1,5 @@
-// Runs at the edges of the format's rules: sizes, refusals, block ends, a log inside a record, and trailers. Each place is
-// written out, so that a step can be checked by hand.
-mod trailers;
-
+// Runs at the edges of the format's rules: sizes, refusals, block ends, and a log inside a record. Each place is written out, so
+// that a step can be checked by hand.
 ghost use Prim.Native.Nat.{_≤_};
 use report::BufferArray;
 use report::Length;
@@ -18,12 +16,6 @@ fn main() {
     block_ends(&mut log, &mut record, &mut buffer);
     empty_records(&mut log, &mut record, &mut buffer);
     log_inside_a_record(&mut log, &mut record, &mut buffer);
-    trailers::of_length(b"1 byte of trailer", 1, &mut log, &mut record, &mut buffer);
-    trailers::of_length(b"2 bytes of trailer", 2, &mut log, &mut record, &mut buffer);
-    trailers::of_length(b"3 bytes of trailer", 3, &mut log, &mut record, &mut buffer);
-    trailers::of_length(b"4 bytes of trailer", 4, &mut log, &mut record, &mut buffer);
-    trailers::of_length(b"5 bytes of trailer", 5, &mut log, &mut record, &mut buffer);
-    trailers::of_length(b"6 bytes of trailer", 6, &mut log, &mut record, &mut buffer);
 }
 
 fn longest_record(log: &mut LogArray, record: &mut RecordArray, buffer: &mut BufferArray) {

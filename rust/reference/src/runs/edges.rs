@@ -1,7 +1,7 @@
-//! Runs at the edges of the format's rules: sizes, refusals, block ends, a log inside a record, and
-//! trailers. Each place is written out, so that a step can be checked by hand.
+//! Runs at the edges of the format's rules: sizes, refusals, block ends, and a log inside a record.
+//! Each place is written out, so that a step can be checked by hand.
 
-use super::{trailers, Run};
+use super::Run;
 
 /// What the program `run_edges` writes.
 pub fn listing() -> String {
@@ -12,7 +12,6 @@ pub fn listing() -> String {
     block_ends(&mut run);
     empty_records(&mut run);
     log_inside_a_record(&mut run);
-    trailers::scenarios(&mut run);
     run.lines
 }
 

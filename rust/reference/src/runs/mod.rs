@@ -5,7 +5,7 @@ pub mod edges;
 pub mod example;
 pub mod feed;
 pub mod reasons;
-mod trailers;
+pub mod trailers;
 
 use crate::crc32c_by_bytes;
 use crate::log::{append, fragment, next, record_bytes, Appended, Next, Stored, Tail};
@@ -84,6 +84,11 @@ impl Run {
         self.make_record(number, bytes);
         let fragment = fragment(kind, &self.record[..bytes]);
         self.log[place..place + fragment.len()].copy_from_slice(&fragment);
+    }
+
+    /// Writes zeros into the log.
+    fn zeros(&mut self, place: usize, bytes: usize) {
+        self.log[place..place + bytes].fill(0);
     }
 
     /// Changes a byte of the log by xor.

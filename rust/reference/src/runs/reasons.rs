@@ -1,5 +1,6 @@
 //! Runs over the reasons for a skip, 1 to 8, with the limits at 7, and over the asking for
-//! bytes. Each place is written out, so that a step can be checked by hand.
+//! bytes. Reason 9 has a listing of its own, `trailers`. Each place is written out, so that a step
+//! can be checked by hand.
 
 use super::Run;
 use crate::log::{FIRST, FULL, LAST, MIDDLE};

@@ -1,0 +1,5 @@
+//! Makes crates/run_trailers/stdout.
+
+fn main() {
+    print!("{}", reference::runs::trailers::listing());
+}
