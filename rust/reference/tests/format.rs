@@ -1,6 +1,8 @@
 //! The figures and examples of docs/FORMAT.md, held to this implementation: each is worked out here
 //! and must stand on the page as it comes out.
 
+#[path = "format/dirty_trailer.rs"]
+mod dirty_trailer;
 #[path = "format/empty_start.rs"]
 mod empty_start;
 
@@ -45,28 +47,33 @@ fn told(log: &[u8], limit: usize) -> Vec<String> {
     loop {
         let answer = next(log, place, limit, &mut buffer);
         place = answer.place_after(log);
-        lines.push(match answer {
-            Next::Record {
-                start, end, stored, ..
-            } => {
-                let stored = match stored {
-                    Stored::Whole(place) => format!("whole from {}", grouped(place)),
-                    Stored::Gathered => "gathered".to_string(),
-                };
-                format!("record {} to {}, {stored}", grouped(start), grouped(end))
-            }
-            Next::Skip { start, end, reason } => format!(
-                "skipped {} to {}, reason {reason}",
-                grouped(start),
-                grouped(end)
-            ),
-            Next::End(Tail::Clean) => "end, clean".to_string(),
-            Next::End(Tail::Torn(start)) => format!("end, torn at {}", grouped(start)),
-            Next::Refused { number, .. } => panic!("refused with {number}"),
-        });
+        lines.push(line(answer));
         if matches!(answer, Next::End(_)) {
             return lines;
         }
+    }
+}
+
+/// An answer, as the page tells it.
+fn line(answer: Next) -> String {
+    match answer {
+        Next::Record {
+            start, end, stored, ..
+        } => {
+            let stored = match stored {
+                Stored::Whole(place) => format!("whole from {}", grouped(place)),
+                Stored::Gathered => "gathered".to_string(),
+            };
+            format!("record {} to {}, {stored}", grouped(start), grouped(end))
+        }
+        Next::Skip { start, end, reason } => format!(
+            "skipped {} to {}, reason {reason}",
+            grouped(start),
+            grouped(end)
+        ),
+        Next::End(Tail::Clean) => "end, clean".to_string(),
+        Next::End(Tail::Torn(start)) => format!("end, torn at {}", grouped(start)),
+        Next::Refused { number, .. } => panic!("refused with {number}"),
     }
 }
 
@@ -367,6 +374,21 @@ fn fed_line(answer: Next) -> String {
         Next::End(Tail::Clean) => "end, clean".to_string(),
         Next::End(Tail::Torn(start)) => format!("end, torn at {}", grouped(start)),
         other => panic!("{other:?}"),
+    }
+}
+
+/// Fed in pieces of a length: as the page tells it of the whole log, but that every record is
+/// gathered. Its bytes are said if the page says them.
+fn fed_as_told(log: &[u8], limit: usize, length: usize, due: &str) {
+    let due: Vec<&str> = due.split("; ").collect();
+    let answers = fed(log, limit, length);
+    assert_eq!(answers.len(), due.len(), "{answers:?}");
+    for ((answer, _), due) in answers.iter().zip(due) {
+        let due = due.split(", whole").next().expect("some of it");
+        let due = due.trim_end_matches(", gathered");
+        let bytes_said = due.contains("bytes") || !due.starts_with("record");
+        let same = answer == due || !bytes_said && answer.starts_with(&format!("{due}, "));
+        assert!(same, "{answer} for {due}, in pieces of {length}");
     }
 }
 

@@ -282,4 +282,6 @@ fn made_the_stored_outputs() {
     assert_eq!(edges, reference::runs::edges::listing());
     let reasons = include_str!("../../../crates/run_reasons/stdout");
     assert_eq!(reasons, reference::runs::reasons::listing());
+    let trailers = include_str!("../../../crates/run_trailers/stdout");
+    assert_eq!(trailers, reference::runs::trailers::listing());
 }

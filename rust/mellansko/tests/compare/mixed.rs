@@ -1,7 +1,7 @@
 //! Logs made of fragments as no writer puts them: any type after any other, ending anywhere near a
 //! block's end, most of them with a right checksum.
 
-use super::odd::{self, kind_after, spoilt};
+use super::odd::{self, kind_after, spoilt, trailer};
 use crate::random::Random;
 use reference::log::{fragment, BLOCK, HEADER};
 
@@ -12,7 +12,7 @@ pub fn log(random: &mut Random, length: usize) -> Vec<u8> {
     while log.len() < length {
         let left = BLOCK - log.len() % BLOCK;
         if left < HEADER {
-            log.extend(random.bytes(left));
+            log.extend(trailer(random, left));
         } else {
             kind = kind_after(random, kind, left);
             let room = left - HEADER;

@@ -54,6 +54,17 @@ fn after_empty(random: &mut Random) -> Kind {
     some(kinds[random.below(kinds.len())])
 }
 
+/// A trailer: zeros, as a writer leaves it, or dirty (docs/FORMAT.md, §14), in all bytes or in one.
+pub fn trailer(random: &mut Random, bytes: usize) -> Vec<u8> {
+    let mut trailer = vec![0; bytes];
+    match random.below(4) {
+        0 => trailer = random.bytes(bytes),
+        1 => trailer[random.below(bytes)] = 1 << random.below(8),
+        _ => {}
+    }
+    trailer
+}
+
 /// Mostly the fragment as it is: three in so many are spoilt.
 pub fn spoilt(random: &mut Random, mut fragment: Vec<u8>, room: usize, many: usize) -> Vec<u8> {
     match random.below(many) {

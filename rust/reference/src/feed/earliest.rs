@@ -8,12 +8,14 @@
 //! answers are those of the whole log, whatever comes: then the readings of all those logs begin
 //! with F. So where F and S are the same, T is the same as well, whichever logs were taken for S.
 //! Two logs are enough in fact: the one that ends here has every answer that can be certain, and
-//! a byte more takes those away whose range ends with the log. The others are there to show it if
-//! the fed reader answers too early.
+//! a byte more takes those away whose range ends with the log. So it is with a trailer: where it is
+//! zeros so far the log that ends here has no answer for it, though the next byte may make it dirty
+//! (§14.6); and where it is dirty its own range grows with the byte, while that of the record that
+//! it interrupts does not. The others are there to show it if the fed reader answers too early.
 
 use super::reading;
 use super::sound::sound;
-use crate::log::{block_end, Next, HEADER, LONGEST_LOG, LONGEST_RECORD};
+use crate::log::{block_end, fragment, Next, HEADER, LAST, LONGEST_LOG, LONGEST_RECORD};
 
 /// The longest list of answers, no end among them, with which the readings of all logs begin that
 /// begin with `came`.
@@ -34,10 +36,12 @@ pub fn earliest(came: &[u8], limit: usize) -> Vec<Next> {
 
 /// What may still come: some of all that may. Every log's length is within the limit (§1.6).
 pub fn continuations(came: &[u8]) -> Vec<Vec<u8>> {
+    let (trailer, begun) = at_hand(came);
     let mut all = vec![Vec::new()];
     all.extend(bytes_alone());
     all.extend(fillings(came.len()));
-    all.extend(completions(came));
+    all.extend(dirty(trailer));
+    all.extend(completions(came.len(), trailer, begun));
     all.retain(|more| came.len() + more.len() <= LONGEST_LOG);
     all
 }
@@ -64,11 +68,24 @@ fn fillings(came: usize) -> Vec<Vec<u8>> {
     all
 }
 
-/// The fragment at hand made whole: sound where that can be, and spoilt in its last byte; with
-/// nothing after it, and with a byte.
-fn completions(came: &[u8]) -> Vec<Vec<u8>> {
-    let (trailer, begun) = at_hand(came);
-    let place = came.len() + trailer - begun.len();
+/// The rest of a trailer with each of its bytes dirty in turn: up to that byte, up to the block's
+/// end, and with a fragment after it that would complete a record.
+fn dirty(trailer: usize) -> Vec<Vec<u8>> {
+    let mut all = Vec::new();
+    for place in 0..trailer {
+        let mut rest = vec![0; trailer];
+        rest[place] = 1;
+        all.push(rest[..=place].to_vec());
+        all.push([&rest[..], &fragment(LAST, &[])].concat());
+        all.push(rest);
+    }
+    all
+}
+
+/// The fragment at hand made whole, after a trailer of zeros if one has to come before it: sound
+/// where that can be, and spoilt in its last byte; with nothing after it, and with a byte.
+fn completions(came: usize, trailer: usize, begun: &[u8]) -> Vec<Vec<u8>> {
+    let place = came + trailer - begun.len();
     let room = block_end(place) - place - HEADER;
     let mut all = Vec::new();
     for kind in [0, 1, 2, 3, 4, 5, 0xFF] {

@@ -1,5 +1,6 @@
 //! All ways of cutting twelve bytes into pieces, at a log's start and at a block's end.
 
+use crate::dirty::Met;
 use crate::fed::Fed;
 use crate::make;
 use crate::random::Random;
@@ -120,6 +121,38 @@ fn of_twelve_bytes_after_an_empty_first() {
     }
     // By a FULL of five bytes, by a FIRST, and by those of fewer bytes.
     assert!(starts >= 8, "{starts} empty starts");
+}
+
+/// A trailer, of zeros and with each byte dirty, and what would complete a record: after a record,
+/// inside one, and inside an empty one.
+#[test]
+fn of_twelve_bytes_that_begin_with_a_trailer() {
+    let random = &mut Random::new();
+    println!("{random}");
+    let met = &mut Met::default();
+    for bytes in [1, 3, 6] {
+        let data = vec![7; BLOCK - HEADER - bytes];
+        let heads = [
+            fragment(FULL, &data),
+            fragment(FIRST, &data),
+            [fragment(FULL, &data[HEADER..]), fragment(FIRST, b"")].concat(),
+        ];
+        for (head, dirty) in heads
+            .iter()
+            .flat_map(|head| (0..=bytes).map(move |i| (head, i)))
+        {
+            // Past its end there is none that is dirty.
+            let trailer: Vec<u8> = (0..bytes).map(|i| u8::from(i == dirty)).collect();
+            let mut log = [head, &trailer[..], &fragment(LAST, &[7; 4])].concat();
+            log.truncate(head.len() + CUT);
+            let mut fed = Fed::new(random, &log, BLOCK);
+            fed.offer(head.len());
+            fed.draw_all();
+            every_cutting(&fed);
+            met.count(&reading(&log, BLOCK));
+        }
+    }
+    met.at_least(10, 20);
 }
 
 /// With a record, a FIRST or bad bytes before them, and as many of them in the next block.

@@ -200,7 +200,8 @@ impl<'a> Fed<'a> {
     }
 
     /// With nothing more certain, and at the end: the place is where the open fragments or the last
-    /// answer end, or after the trailer there, if all of it has come or all that there is.
+    /// answer end, or after the trailer there, if all of it has come or all that there is. (By then
+    /// a dirty trailer is the last answer.)
     fn check_place(&self) {
         let end = self
             .open()
@@ -224,7 +225,8 @@ impl<'a> Fed<'a> {
         &accepted[accepted.partition_point(before)..]
     }
 
-    /// With nothing more certain: the reason of a bad fragment that has come, with nothing open.
+    /// With nothing more certain: the reason of a bad fragment that has come, with nothing open. A
+    /// dirty trailer is no fragment (§11.9).
     pub fn check_remembered(&self) {
         let State { place, opened, .. } = self.state;
         let limit = self.state.limit as usize;

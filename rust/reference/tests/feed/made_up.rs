@@ -103,6 +103,8 @@ fn that_fit_with_a_bad_fragment() {
             (|_| {}, true),
             (|s| s.bad = 1, true),
             (|s| s.bad = 4, false),
+            // A dirty trailer is never remembered (§11.9).
+            (|s| s.bad = 9, false),
             (|s| s.bad = u64::MAX, false),
             (|s| s.place = 53, true),
             (|s| s.place = 54, false),
@@ -179,7 +181,11 @@ struct Made {
 
 /// Fragments from the place on, of which some have come; sometimes all of the block.
 fn made(random: &mut Random) -> Made {
-    let o = make::pick(random, &[0, 100, BLOCK / 2, BLOCK - 30]) + random.below(30);
+    let o = match random.below(6) {
+        // In a trailer.
+        0 => BLOCK - 1 - random.below(HEADER - 1),
+        _ => make::pick(random, &[0, 100, BLOCK / 2, BLOCK - 30]) + random.below(30),
+    };
     let mut bytes = random.bytes(o);
     make::add(random, &mut bytes, (o + 60).min(BLOCK), 9);
     bytes.extend(random.bytes(BLOCK - bytes.len()));
@@ -278,8 +284,8 @@ fn moved(answer: Next, from: usize, state: &State) -> Next {
 fn that_fit_are_answered() {
     let random = &mut Random::new();
     println!("{random}");
-    let mut kinds = [0; 6];
-    for _ in 0..3_000 {
+    let mut kinds = [0; 7];
+    for _ in 0..6_000 {
         let mut made = made(random);
         let before = made.state;
         assert!(fits(&before), "{random}, {before:?}");
@@ -297,9 +303,10 @@ fn that_fit_are_answered() {
             Told::Answer(Next::Record { .. }) => 0,
             Told::Answer(Next::Skip { reason: 4, .. }) => 1,
             Told::Answer(Next::Skip { reason: 8, .. }) => 2,
-            Told::Answer(Next::Skip { .. }) => 3,
-            Told::Answer(_) => 4,
-            _ => 5,
+            Told::Answer(Next::Skip { reason: 9, .. }) => 3,
+            Told::Answer(Next::Skip { .. }) => 4,
+            Told::Answer(_) => 5,
+            _ => 6,
         }] += 1;
     }
     assert!(kinds.iter().all(|kind| *kind > 100), "{kinds:?}");
@@ -339,6 +346,8 @@ fn after(made: &Made, log: &[u8], from: usize, due: Option<Next>) -> (State, Vec
                 ..state
             };
         }
+        // A dirty trailer waits as well, but is not remembered (§11.9).
+        (None, Next::Skip { reason: 9, .. }) => {}
         (None, Next::Skip { reason, .. }) => state.bad = u64::from(reason),
         _ => {}
     }

@@ -11,8 +11,11 @@ mod pieces;
 mod program;
 mod refusals;
 mod sums;
+mod trailers;
 mod words;
 
+#[path = "../dirty/mod.rs"]
+mod dirty;
 #[path = "../../../mellansko/tests/compare/odd.rs"]
 mod odd;
 #[path = "../../../mellansko/tests/random/mod.rs"]

@@ -1,6 +1,6 @@
 //! Logs of fragments as no writer puts them: any type after any other, most of them sound.
 
-use crate::odd::{self, kind_after, spoilt};
+use crate::odd::{self, kind_after, spoilt, trailer};
 use crate::random::Random;
 use reference::log::{append, fragment, Appended, BLOCK, FIRST, FULL, HEADER};
 
@@ -30,7 +30,7 @@ pub fn add(random: &mut Random, log: &mut Vec<u8>, length: usize, most: usize) {
     while log.len() < length {
         let left = BLOCK - log.len() % BLOCK;
         if left < HEADER {
-            log.extend(random.bytes(left));
+            log.extend(trailer(random, left));
             continue;
         }
         let room = left - HEADER;

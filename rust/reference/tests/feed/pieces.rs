@@ -1,17 +1,19 @@
 //! *Fed anyhow* and *held between* (§11.12): pieces of any lengths, answers drawn at any moments.
 
+use crate::dirty::{self, Met};
 use crate::fed::Fed;
 use crate::make;
 use crate::random::Random;
 use reference::feed::Told;
-use reference::log::{BLOCK, LONGEST_LOG};
+use reference::log::{Next, BLOCK, HEADER, LONGEST_LOG};
 use std::sync::LazyLock;
 
 /// A piece that is too long by a byte at a log's start.
 static TOO_LONG: LazyLock<Vec<u8>> = LazyLock::new(|| vec![7; LONGEST_LOG + 1]);
 
-/// Pieces of up to `most` bytes, none among them, with answers drawn in between or not.
-fn fed(random: &mut Random, log: &[u8], limit: usize, most: usize) {
+/// Pieces of up to `most` bytes, none among them, with answers drawn in between or not. Gives the
+/// answers.
+fn fed(random: &mut Random, log: &[u8], limit: usize, most: usize) -> Vec<Next> {
     let mut fed = Fed::new(random, log, limit);
     while fed.came() < log.len() {
         let (offered, taken) = fed.offer(random.below(most + 1));
@@ -35,6 +37,7 @@ fn fed(random: &mut Random, log: &[u8], limit: usize, most: usize) {
         fed.refused(&TOO_LONG);
     }
     fed.finish();
+    fed.answers
 }
 
 fn draw_some(random: &mut Random, fed: &mut Fed) {
@@ -62,18 +65,37 @@ fn of_short_logs() {
 fn of_logs_around_a_blocks_end() {
     let random = &mut Random::new();
     println!("{random}");
+    let met = &mut Met::default();
     for _ in 0..150 {
-        let before = random.below(40);
+        // So few that it is a trailer, or any.
+        let most = make::pick(random, &[HEADER, 40]);
+        let before = random.below(most);
         let length = BLOCK - 10 + random.below(50);
         let mut log = make::near_the_end(random, before, length);
         let limit = make::pick(random, &[30, BLOCK, 2 * BLOCK]);
         let most = make::pick(random, &[50, 2_000, 50_000]);
-        fed(random, &log, limit, most);
+        met.count(&fed(random, &log, limit, most));
         // The first fragment spoilt: the block is given up.
         let place = random.below(BLOCK - 100);
         log[place] ^= 1;
         fed(random, &log, limit, most);
     }
+    met.at_least(3, 1);
+}
+
+#[test]
+fn of_blocks_that_end_in_trailers() {
+    let random = &mut Random::new();
+    println!("{random}");
+    let met = &mut Met::default();
+    for _ in 0..200 {
+        let blocks = 1 + random.below(3);
+        let log = dirty::log(random, blocks);
+        let limit = make::pick(random, &[9, BLOCK, 3 * BLOCK]);
+        let most = make::pick(random, &[700, 9_000, 50_000]);
+        met.count(&fed(random, &log, limit, most));
+    }
+    met.at_least(20, 10);
 }
 
 #[test]

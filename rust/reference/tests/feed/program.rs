@@ -66,6 +66,21 @@ fn of_the_example_damaged() {
     assert_eq!(lines(&log), first);
 }
 
+/// The trailer before the third record, with a byte that is not zero; all of it, and cut.
+#[test]
+fn of_the_example_with_a_dirty_trailer() {
+    let mut log = example::log();
+    log[98_300] = 1;
+    let before = "S 65536 98298 5\n";
+    let dirty = EXAMPLE.replace(before, &format!("{before}S 98298 98304 9\n"));
+    assert_eq!(lines(&log), dirty);
+    let whole: Vec<&str> = EXAMPLE.lines().collect();
+    let before = whole[..4].join("\n");
+    let cut = format!("{before}\nS 98298 98301 9\nE clean\n");
+    assert_eq!(lines(&log[..98_301]), cut);
+    assert_eq!(lines(&log[..98_300]), format!("{before}\nE clean\n"));
+}
+
 #[test]
 fn of_small_logs() {
     assert_eq!(lines(&[]), "E clean\n");

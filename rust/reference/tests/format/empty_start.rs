@@ -1,6 +1,6 @@
 //! The examples of §13.7: read, fed in pieces, and mended.
 
-use super::{bytes, fed, mended, part, says, table, told, PAGE};
+use super::{bytes, fed, fed_as_told, mended, part, says, table, told, PAGE};
 use reference::log::{fragment, FIRST, FULL, LAST};
 
 /// The two tables: the records that begin afresh, and the small logs.
@@ -57,21 +57,6 @@ fn small_logs() {
         for length in 1..=log.len() {
             fed_as_told(&log, 100, length, &row[1]);
         }
-    }
-}
-
-/// Fed in pieces of a length: as the page tells it of the whole log, but that every record is
-/// gathered. Its bytes are said if the page says them.
-fn fed_as_told(log: &[u8], limit: usize, length: usize, due: &str) {
-    let due: Vec<&str> = due.split("; ").collect();
-    let answers = fed(log, limit, length);
-    assert_eq!(answers.len(), due.len(), "{answers:?}");
-    for ((answer, _), due) in answers.iter().zip(due) {
-        let due = due.split(", whole").next().expect("some of it");
-        let due = due.trim_end_matches(", gathered");
-        let bytes_said = due.contains("bytes") || !due.starts_with("record");
-        let same = answer == due || !bytes_said && answer.starts_with(&format!("{due}, "));
-        assert!(same, "{answer} for {due}, in pieces of {length}");
     }
 }
 

@@ -1,10 +1,13 @@
 //! *Never longer* (§12.4), tried with layouts that nobody would write: records in any fragments
 //! around the ends of blocks, and marks that lag behind by what was skipped.
 
+use crate::dirty::Met;
 use crate::make::pick;
+use crate::odd::trailer;
 use crate::promises::hold;
 use crate::random::Random;
 use crate::reading::added;
+use reference::feed;
 use reference::log::{
     append, fragment, Appended, BLOCK, FIRST, FULL, HEADER, LAST, LONGEST_RECORD, MIDDLE,
 };
@@ -84,7 +87,7 @@ fn log(random: &mut Random) -> Vec<u8> {
     for _ in 0..2 + random.below(9) {
         let left = BLOCK - log.len() % BLOCK;
         if left < HEADER {
-            log.extend(random.bytes(left));
+            log.extend(trailer(random, left));
         }
         let room = BLOCK - log.len() % BLOCK - HEADER;
         let few = random.below(9).min(room);
@@ -110,12 +113,15 @@ fn log(random: &mut Random) -> Vec<u8> {
 fn in_bytes() {
     let random = &mut Random::new();
     println!("{random}");
+    let met = &mut Met::default();
     for _ in 0..200 {
         let bad = log(random);
         hold(random, &bad, LONGEST_RECORD);
         let limit = pick(random, &[0, 1, 8, BLOCK - HEADER, BLOCK]);
         hold(random, &bad, limit);
+        met.count(&feed::reading(&bad, LONGEST_RECORD));
     }
+    met.at_least(5, 5);
 }
 
 /// No byte of a writer's log can be spared: it mends to as many bytes, at every place near the end

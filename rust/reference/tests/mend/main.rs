@@ -10,6 +10,8 @@ mod small;
 mod words;
 mod written;
 
+#[path = "../dirty/mod.rs"]
+mod dirty;
 #[path = "../../../mellansko/tests/compare/forge.rs"]
 mod forge;
 #[path = "../../../mellansko/tests/compare/hurt.rs"]
