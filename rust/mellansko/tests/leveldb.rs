@@ -1,6 +1,8 @@
 //! Journals that LevelDB wrote, read here, and journals written here, read by LevelDB: by its own
 //! log classes, where its library is installed.
 
+#[path = "leveldb/dirty_trailer.rs"]
+mod dirty_trailer;
 mod interop;
 #[path = "leveldb/old_writer.rs"]
 mod old_writer;
