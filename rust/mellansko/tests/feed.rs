@@ -160,7 +160,8 @@ fn with_an_empty_start() {
 /// Pieces that the block has no room for, and answers that nobody asks for.
 #[test]
 fn with_answers_drawn_late() {
-    let log = fragment(FULL, b"").repeat(BLOCK / 7 + 1);
+    let mut log = fragment(FULL, b"").repeat(BLOCK / 7 + 1);
+    log[BLOCK - 1] = 0;
     let mut feed = Feed::new();
     assert_eq!(feed.take(&log), Ok(BLOCK));
     for _ in 0..3 {

@@ -15,6 +15,8 @@ mod fragments;
 mod lent;
 #[path = "feed_compare/logs.rs"]
 mod logs;
+// A part of it.
+#[allow(dead_code)]
 #[path = "compare/made.rs"]
 mod made;
 // A part of it.
@@ -34,10 +36,12 @@ mod random;
 mod starts;
 #[path = "feed_compare/states.rs"]
 mod states;
+#[path = "compare/trailers.rs"]
+mod trailers;
 #[path = "feed_compare/words.rs"]
 mod words;
 
-use made::Made;
+use made::{Dirty, Made};
 use random::Random;
 
 /// Compares on one kind of inputs, and gives how much was compared.
@@ -56,27 +60,63 @@ fn compare(part: Part, at_least: usize) -> Made {
 
 #[test]
 fn on_logs_whole_cut_and_damaged() {
-    compare(logs::all, 100_000).has_met(8, 15);
+    compare(logs::all, 100_000)
+        .has_met(8, 15)
+        .has_met_dirty(Dirty {
+            all: 5,
+            ..Dirty::default()
+        });
 }
 
 #[test]
 fn on_fragments_as_no_writer_puts_them() {
-    compare(fragments::all, 100_000).has_met(1_000, 600);
+    compare(fragments::all, 100_000)
+        .has_met(1_000, 600)
+        .has_met_dirty(Dirty {
+            all: 150,
+            open: 70,
+            open_and_empty: 35,
+            cut: 8,
+            ..Dirty::default()
+        });
 }
 
 #[test]
 fn on_all_ways_of_cutting_short_logs() {
-    compare(cuts::all, 200_000).has_met(10_000, 5_000);
+    compare(cuts::all, 200_000)
+        .has_met(10_000, 5_000)
+        .has_met_dirty(Dirty {
+            all: 9_000,
+            open: 4_500,
+            open_and_empty: 3_000,
+            cut: 250,
+            ..Dirty::default()
+        });
 }
 
 #[test]
 fn on_calls_in_any_order() {
-    compare(orders::all, 40_000).has_met(200, 120);
+    compare(orders::all, 40_000)
+        .has_met(200, 120)
+        .has_met_dirty(Dirty {
+            all: 15,
+            open: 4,
+            open_and_empty: 2,
+            ..Dirty::default()
+        });
 }
 
 #[test]
 fn on_states_that_are_made_up() {
-    compare(states::all, 300_000).has_met(1_500, 200);
+    compare(states::all, 300_000)
+        .has_met(1_500, 200)
+        .has_met_dirty(Dirty {
+            all: 2_000,
+            open: 1_000,
+            open_and_empty: 80,
+            cut: 200,
+            ..Dirty::default()
+        });
 }
 
 #[test]
@@ -86,5 +126,12 @@ fn on_every_condition() {
 
 #[test]
 fn on_the_earliest_moment_by_its_definition() {
-    compare(earliest::all, 1_000).has_met(15, 12);
+    compare(earliest::all, 1_000)
+        .has_met(15, 12)
+        .has_met_dirty(Dirty {
+            all: 8,
+            open: 2,
+            open_and_empty: 1,
+            ..Dirty::default()
+        });
 }

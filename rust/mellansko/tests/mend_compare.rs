@@ -21,6 +21,8 @@ mod lent;
 mod logs;
 #[path = "mend_compare/longest.rs"]
 mod longest;
+// A part of it.
+#[allow(dead_code)]
 #[path = "compare/made.rs"]
 mod made;
 // A part of it.
@@ -34,13 +36,15 @@ mod odd;
 mod random;
 #[path = "compare/starts.rs"]
 mod starts;
+#[path = "compare/trailers.rs"]
+mod trailers;
 // A part of it.
 #[allow(dead_code)]
 #[path = "feed_compare/words.rs"]
 mod words;
 
 use both::Both;
-use made::Made;
+use made::{Dirty, Made};
 
 /// Compares on one kind of inputs, so many calls at least.
 fn compare(part: fn(&mut Both), at_least: usize) -> Made {
@@ -61,7 +65,12 @@ fn on_journals_whole_and_cut() {
 
 #[test]
 fn on_journals_damaged() {
-    compare(logs::damaged, 1_000).has_met(15, 8);
+    compare(logs::damaged, 1_000)
+        .has_met(15, 8)
+        .has_met_dirty(Dirty {
+            all: 3,
+            ..Dirty::default()
+        });
 }
 
 #[test]
@@ -71,22 +80,58 @@ fn on_random_bytes() {
 
 #[test]
 fn on_fragments_as_no_writer_puts_them() {
-    compare(logs::odd, 10_000).has_met(1_000, 600);
+    compare(logs::odd, 10_000)
+        .has_met(1_000, 600)
+        .has_met_dirty(Dirty {
+            all: 40,
+            open: 15,
+            open_and_empty: 8,
+            ..Dirty::default()
+        });
 }
 
 #[test]
 fn on_empty_starts() {
-    compare(logs::starts, 1_000).has_met(60, 50);
+    compare(logs::starts, 1_000)
+        .has_met(60, 50)
+        .has_met_dirty(Dirty {
+            all: 20,
+            open: 10,
+            open_and_empty: 3,
+            ..Dirty::default()
+        });
+}
+
+#[test]
+fn on_dirty_trailers() {
+    compare(logs::trailers, 1_000).has_met_dirty(Dirty {
+        all: 60,
+        open: 25,
+        open_and_empty: 10,
+        cut: 5,
+        ..Dirty::default()
+    });
 }
 
 #[test]
 fn on_what_gathering_leaves_in_the_buffer() {
-    compare(gathered::all, 10_000).has_met(250, 400);
+    compare(gathered::all, 10_000)
+        .has_met(250, 400)
+        .has_met_dirty(Dirty {
+            all: 15,
+            open: 12,
+            ..Dirty::default()
+        });
 }
 
 #[test]
 fn on_slices_that_just_fit() {
-    compare(exact::all, 2_000);
+    compare(exact::all, 2_000).has_met_dirty(Dirty {
+        all: 30,
+        open: 10,
+        cut: 20,
+        ..Dirty::default()
+    });
 }
 
 #[test]

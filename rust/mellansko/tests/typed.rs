@@ -49,7 +49,7 @@ fn on_logs_whole_cut_and_changed() {
         }
     }
     three_fragments(&mut random, &mut reasons);
-    assert!(reasons.into_iter().eq(1..=8), "not every reason came up");
+    assert!(reasons.into_iter().eq(1..=9), "not every reason came up");
 }
 
 /// Every three fragments in a row, of the four types and of others. One of type 0 is blank if empty.

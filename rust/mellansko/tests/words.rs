@@ -1,5 +1,5 @@
 //! The words for people, as they are to be read: beside the numbers and names of docs/FORMAT.md
-//! (§4.7, §5.1, §11.11, §12.5, §13.5).
+//! (§4.7, §5.1, §11.11, §12.5, §13.5, §14.5).
 
 use mellansko::{records, records_with_limit, Condition, Reason, Refusal, Skip, Tail};
 use reference::log::{fragment, FIRST, FULL, LAST};
@@ -29,6 +29,10 @@ fn of_the_reasons() {
         (
             "empty start",
             "an empty start: a record begun with no bytes, and then begun again",
+        ),
+        (
+            "dirty trailer",
+            "the bytes that fill up a block are not all zero",
         ),
     ];
     assert_eq!(Reason::ALL.len(), words.len());

@@ -1,6 +1,7 @@
 //! examples/feed_stdin.c, held to the reference, over files and over a pipe that pauses.
 
-use crate::files::{of_an_early_writer, printed, reading, run, said, set_length, EARLY};
+use crate::files::{of_an_early_writer, with_a_dirty_trailer, DIRTY, EARLY};
+use crate::files::{printed, reading, run, said, set_length};
 use crate::folder::{root, Folder, C, CLANG, SANITIZED};
 use crate::refusal_text;
 use reference::log::{fragment, BLOCK, FIRST, FULL, LAST, LONGEST_LOG};
@@ -12,7 +13,8 @@ use std::sync::mpsc::{self, Receiver};
 use std::thread;
 use std::time::Duration;
 
-/// The samples, the texts beside them, nothing, the first bytes of a sample, and an empty start.
+/// The samples, the texts beside them, nothing, the first bytes of a sample, an empty start, and a
+/// dirty trailer.
 #[test]
 fn a_log_is_read_as_the_reference_reads_it() {
     let folder = Folder::new("feed");
@@ -30,6 +32,8 @@ fn a_log_is_read_as_the_reference_reads_it() {
         }
         let ran = run(&mut Command::new(&program), &of_an_early_writer());
         assert_eq!(printed(&ran), (EARLY.into(), 0), "{way:?}");
+        let ran = run(&mut Command::new(&program), &with_a_dirty_trailer());
+        assert_eq!(printed(&ran), (DIRTY.into(), 1), "{way:?}");
     }
 }
 

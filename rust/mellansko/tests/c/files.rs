@@ -63,6 +63,24 @@ fn an_empty_start_is_no_damage() {
     }
 }
 
+/// It is printed, and is in doubt, with the record after it or cut.
+#[test]
+fn a_dirty_trailer_is_in_doubt() {
+    let folder = Folder::new("dirty-trailer");
+    let log = with_a_dirty_trailer();
+    let (cut, _) = DIRTY.split_once("to 32768").expect("the trailer");
+    let cut = format!("{cut}to 32766: {}\nclean end at 32766\n", reason_text(9));
+    for way in folder.there(&[C, SANITIZED, CLANG]) {
+        let read = folder.program(way, &root().join("examples/read_file.c"));
+        for (log, says) in [(&log[..], DIRTY), (&log[..32_766], &cut)] {
+            let file = folder.file("journal", log);
+            let ran = run(Command::new(&read).arg(file), b"");
+            assert_eq!(printed(&ran), (says.into(), 1), "{way:?}");
+            assert_eq!(reading(log), (says.into(), 1));
+        }
+    }
+}
+
 #[test]
 fn a_file_that_can_not_be_read_is_no_whole_journal() {
     let folder = Folder::new("unread");
@@ -288,6 +306,21 @@ pub fn of_an_early_writer() -> Vec<u8> {
 /// What read_file and feed_stdin print of it.
 pub const EARLY: &str = "record 0 to 32761: 32754 bytes\n\
      skipped 32761 to 32768: an empty start: a record begun with no bytes, and then begun again\n\
+     record 32768 to 33775: 1000 bytes\n\
+     clean end at 33775\n";
+
+/// A journal with a dirty trailer between two records (docs/FORMAT.md, §14.7).
+pub fn with_a_dirty_trailer() -> Vec<u8> {
+    let mut log = appended(Vec::new(), &some_bytes(32_755, 3));
+    log = appended(log, &some_bytes(1_000, 7));
+    assert_eq!(log[32_762..32_768], [0; 6]);
+    log[32_765] = 1;
+    log
+}
+
+/// What read_file and feed_stdin print of it, with status 1.
+pub const DIRTY: &str = "record 0 to 32762: 32755 bytes\n\
+     in doubt 32762 to 32768: the bytes that fill up a block are not all zero\n\
      record 32768 to 33775: 1000 bytes\n\
      clean end at 33775\n";
 

@@ -328,6 +328,26 @@ static void empty_starts(void)
     NEXT(26, 10, 3, 3, MELLANSKO_END, MELLANSKO_TORN, 10, 0, 0, 0, 10);
 }
 
+/* A trailer of six bytes after a record, and after one that is begun. */
+static void dirty_trailers(void)
+{
+    const size_t block = MELLANSKO_BLOCK, start = block - 6, log = block + HEADER + 3;
+    put(start - HEADER, 1, 0);
+    memset(now.log + start, 0, 6);
+    put(block, 1, 3);
+    NEXT(log, start, 3, 3, MELLANSKO_RECORD, block, log, 3, MELLANSKO_WHOLE, block + HEADER, log);
+    now.log[block - 4] = 1;
+    NEXT(log, start, 3, 3, MELLANSKO_SKIP, start, block, MELLANSKO_DIRTY_TRAILER, 0, 0, block);
+    NEXT(block - 3, start, 3, 3, MELLANSKO_SKIP, start, block - 3, MELLANSKO_DIRTY_TRAILER, 0, 0,
+         block - 3);
+    NEXT(block - 4, start, 3, 3, MELLANSKO_END, MELLANSKO_CLEAN, 0, 0, 0, 0, block - 4);
+    NEXT(log, block - 3, 3, 3, MELLANSKO_RECORD, block, log, 3, MELLANSKO_WHOLE, block + HEADER,
+         log);
+    put(start - HEADER, 2, 0);
+    NEXT(log, start - HEADER, 3, 3, MELLANSKO_SKIP, start - HEADER, start, MELLANSKO_INTERRUPTED, 0,
+         0, start);
+}
+
 /* Which word of a feed a name stands for, by a feed whose words are their own numbers. */
 static void feed_names(void)
 {
@@ -385,6 +405,28 @@ static void fed_empty_start(void)
     FEED_NEXT(3, 0, 0, MELLANSKO_SKIP, 0, 7, MELLANSKO_EMPTY_START, 0, 0, 7);
     FEED(3, 7, 16);
     FEED_NEXT(3, 0, 2, MELLANSKO_RECORD, 7, 16, 2, MELLANSKO_GATHERED, 0, 16);
+}
+
+/* A byte that is not zero interrupts an open record at once; the trailer waits for its end. */
+static void fed_dirty_trailer(void)
+{
+    const size_t block = MELLANSKO_BLOCK, start = block - 6;
+    put(start - HEADER, 2, 0);
+    memset(now.log + start, 0, 6);
+    now.log[block - 4] = 1;
+    BEGIN(3, MELLANSKO_BEGUN);
+    /* As if all before it had been read. */
+    lent_feed.feed.place = lent_feed.feed.came = start - HEADER;
+    TAKE(start - HEADER, HEADER + 2, MELLANSKO_TAKEN, HEADER + 2);
+    FEED_NEXT(3, 0, 0, MELLANSKO_NOT_YET);
+    FEED(3, start, start + 2, 0, 1, start - HEADER);
+    TAKE(start + 2, 1, MELLANSKO_TAKEN, 1);
+    FEED_NEXT(3, 0, 0, MELLANSKO_SKIP, start - HEADER, start, MELLANSKO_INTERRUPTED, 0, 0, start);
+    FEED_NEXT(3, 0, 0, MELLANSKO_NOT_YET);
+    FEED(3, start, start + 3);
+    TAKE(start + 3, 3, MELLANSKO_TAKEN, 3);
+    FEED_NEXT(3, 0, 0, MELLANSKO_SKIP, start, block, MELLANSKO_DIRTY_TRAILER, 0, 0, block);
+    FEED(3, block, block);
 }
 
 /* A torn tail, and a piece that is longer than a block. */
@@ -484,9 +526,11 @@ int main(void)
     refused_readings();
     answers();
     empty_starts();
+    dirty_trailers();
     feed_names();
     feeding();
     fed_empty_start();
+    fed_dirty_trailer();
     fed_to_the_end();
     refused_feeds();
     mending();

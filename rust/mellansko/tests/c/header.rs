@@ -29,7 +29,7 @@ fn its_texts_are_those_of_the_rust_crate() {
     let source = folder.file(
         "texts.c",
         "#include <stdio.h>\n#include \"mellansko.h\"\nint main(void) {\n\
-         for (int i = 0; i <= 9; i++) puts(mellansko_reason_text((uint64_t)i));\n\
+         for (int i = 0; i <= 10; i++) puts(mellansko_reason_text((uint64_t)i));\n\
          for (int i = 0; i <= 21; i++) puts(mellansko_refusal_text((uint64_t)i));\n\
          puts(mellansko_reason_text(UINT64_MAX));\n\
          puts(mellansko_refusal_text(((uint64_t)1 << 32) + 1));\nreturn 0;\n}\n",
@@ -38,9 +38,9 @@ fn its_texts_are_those_of_the_rust_crate() {
         "a number that is no reason's",
         "a number that is no refusal's",
     ];
-    assert_eq!((Reason::ALL.len(), Condition::ALL.len()), (8, 7));
+    assert_eq!((Reason::ALL.len(), Condition::ALL.len()), (9, 7));
     let mut lines = vec![none.to_string()];
-    lines.extend((1..=8).map(reason_text));
+    lines.extend((1..=9).map(reason_text));
     lines.push(none.to_string());
     lines.extend((0..=21).map(|number| match number {
         1..=6 | 20 => refusal_text(number),

@@ -1,7 +1,7 @@
 //! examples/mend_file.c, held to the reference.
 
 use crate::files::{appended, of_an_early_writer, printed, reading};
-use crate::files::{run, said, set_length, some_bytes};
+use crate::files::{run, said, set_length, some_bytes, with_a_dirty_trailer};
 use crate::folder::{left_out, root, Folder, Way, C, CLANG, SANITIZED};
 use crate::mended::mended;
 use crate::refusal_text;
@@ -70,6 +70,22 @@ fn an_empty_start_is_mended_without_a_loss() {
         let ran = mend(&program(&folder, way), &bad, &new);
         assert_eq!(printed(&ran), (lines(&bad, &new, 33_775, 0), 0));
         assert!(fs::read(&new).expect("the new file") == records);
+        fs::remove_file(&new).expect("the new file");
+    }
+}
+
+/// A dirty trailer is left out, and counted.
+#[test]
+fn a_dirty_trailer_is_counted() {
+    let folder = Folder::new("mend-dirty-trailer");
+    let log = with_a_dirty_trailer();
+    let (bad, new) = (folder.file("bad", &log), folder.0.join("new"));
+    let mut clean = log;
+    clean[32_765] = 0;
+    for way in folder.there(&[C]) {
+        let ran = mend(&program(&folder, way), &bad, &new);
+        assert_eq!(printed(&ran), (lines(&bad, &new, 33_775, 6), 0));
+        assert!(fs::read(&new).expect("the new file") == clean);
         fs::remove_file(&new).expect("the new file");
     }
 }

@@ -1,6 +1,6 @@
 //! Sound fragments put into a log in the place of others.
 
-use super::make;
+use super::{make, odd};
 use crate::random::Random;
 use reference::log::{fragment, BLOCK, FIRST, FULL, HEADER, LAST, MIDDLE};
 
@@ -38,6 +38,23 @@ pub fn start_empty(random: &mut Random, log: &mut [u8]) {
     }
     let kinds = [FULL, FULL, FULL, FIRST, FIRST, FIRST, LAST, 5];
     forge(random, log, place, &kinds);
+}
+
+/// A sound fragment in the place of another that ends in the last bytes of its block, and a trailer
+/// after it.
+pub fn end_in_a_trailer(random: &mut Random, log: &mut [u8]) {
+    let bytes = 1 + random.below(HEADER - 1);
+    let end = |place: usize| (place / BLOCK + 1) * BLOCK - bytes;
+    let mut headers = make::headers(log);
+    headers.retain(|&place| place + HEADER <= end(place) && end(place) <= log.len());
+    if headers.is_empty() {
+        return;
+    }
+    let place = make::pick(random, &headers);
+    let data = log[place + HEADER..end(place)].to_vec();
+    let kind = make::pick(random, &[FULL, FIRST, MIDDLE, LAST]);
+    overwrite(log, place, &fragment(kind, &data));
+    overwrite(log, end(place), &odd::trailer(random, bytes));
 }
 
 /// Puts bytes at a place, as many of them as the log has there.

@@ -1,6 +1,6 @@
 //! Logs made of fragments as no writer puts them.
 
-use super::{mixed, starts, Comparison};
+use super::{mixed, starts, trailers, Comparison};
 use reference::log::BLOCK;
 
 pub fn all(c: &mut Comparison) {
@@ -11,6 +11,10 @@ pub fn all(c: &mut Comparison) {
     }
     for _ in 0..2_000 {
         let log = starts::log(&mut c.random);
+        c.examine(&log);
+    }
+    for _ in 0..1_000 {
+        let log = trailers::log(&mut c.random);
         c.examine(&log);
     }
 }

@@ -1,6 +1,6 @@
 //! Damage to a log: by chance, and as if by someone who knows the format.
 
-use super::forge::{forge, overwrite, start_empty};
+use super::forge::{end_in_a_trailer, forge, overwrite, start_empty};
 use super::make;
 use crate::random::Random;
 use reference::log::{BLOCK, HEADER};
@@ -8,7 +8,7 @@ use reference::log::{BLOCK, HEADER};
 /// One piece of damage.
 pub fn hurt(random: &mut Random, log: &mut Vec<u8>, other: &[u8]) {
     let place = random.below(log.len());
-    match random.below(14) {
+    match random.below(16) {
         0 => log[place] ^= 1 << random.below(8),
         1 => log[place] = random.next() as u8,
         2 => {
@@ -26,6 +26,7 @@ pub fn hurt(random: &mut Random, log: &mut Vec<u8>, other: &[u8]) {
         7 => overwrite(log, place, other),
         8 => log.truncate(place + 1),
         9 | 10 => start_empty(random, log),
+        11 | 12 => end_in_a_trailer(random, log),
         _ => hurt_a_fragment(random, log),
     }
 }

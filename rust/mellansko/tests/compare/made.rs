@@ -1,27 +1,90 @@
 //! How much was compared.
 
+use reference::log::{Next, BLOCK, HEADER};
 use std::ops::AddAssign;
+
+const INTERRUPTED: u8 = 4;
+const EMPTY_START: u8 = 8;
+const DIRTY_TRAILER: u8 = 9;
 
 /// Calls, and how often each reason was met.
 #[derive(Clone, Copy, Default)]
 pub struct Made {
     pub calls: usize,
-    reasons: [usize; 9],
+    reasons: [usize; 10],
+    dirty: Dirty,
+    /// The last range that was skipped, if it is a record that breaks off: where it starts and ends.
+    broken: Option<(usize, usize)>,
+}
+
+/// How many dirty trailers were met (docs/FORMAT.md, §14), and in which of the cases that differ.
+#[derive(Clone, Copy, Debug, Default)]
+pub struct Dirty {
+    pub all: usize,
+    /// After a record that is open there and breaks off, and after one that is an empty FIRST alone.
+    pub open: usize,
+    pub open_and_empty: usize,
+    /// Where the log ends inside the trailer.
+    pub cut: usize,
+    /// At a place that was made up.
+    pub made_up: usize,
 }
 
 impl Made {
     /// A skipped range was answered.
-    pub fn skipped(&mut self, reason: u8) {
+    pub fn skipped(&mut self, start: usize, end: usize, reason: u8) {
         self.reasons[usize::from(reason)] += 1;
+        if reason == DIRTY_TRAILER {
+            let open = self.broken.filter(|(_, broken_at)| *broken_at == start);
+            let empty = open.filter(|(begun, _)| begun + HEADER == start);
+            self.dirty += Dirty {
+                all: 1,
+                open: usize::from(open.is_some()),
+                open_and_empty: usize::from(empty.is_some()),
+                cut: usize::from(!end.is_multiple_of(BLOCK)),
+                made_up: 0,
+            };
+        }
+        self.broken = (reason == INTERRUPTED).then_some((start, end));
+    }
+
+    /// The last call was made at a place that was made up.
+    pub fn made_up(&mut self, answer: &Next) {
+        let dirty = matches!(*answer, Next::Skip { reason, .. } if reason == DIRTY_TRAILER);
+        self.dirty.made_up += usize::from(dirty);
     }
 
     /// Inputs without a record that breaks off and without an empty start would show nothing of
     /// either: so many of each at least.
-    pub fn has_met(&self, interrupted: usize, empty_starts: usize) {
+    pub fn has_met(&self, interrupted: usize, empty_starts: usize) -> &Made {
         let reasons = self.reasons;
         println!("reasons from 0 on: {reasons:?}");
-        assert!(reasons[4] >= interrupted, "reason 4, {reasons:?}");
-        assert!(reasons[8] >= empty_starts, "reason 8, {reasons:?}");
+        let met = |reason: u8| reasons[usize::from(reason)];
+        assert!(met(INTERRUPTED) >= interrupted, "reason 4, {reasons:?}");
+        assert!(met(EMPTY_START) >= empty_starts, "reason 8, {reasons:?}");
+        self
+    }
+
+    /// Nor would those without dirty trailers, in each of the cases.
+    pub fn has_met_dirty(&self, least: Dirty) {
+        let met = self.dirty;
+        println!("{met:?}");
+        let enough = met.all >= least.all
+            && met.open >= least.open
+            && met.open_and_empty >= least.open_and_empty
+            && met.cut >= least.cut
+            && met.made_up >= least.made_up;
+        assert!(enough, "{met:?}, and not {least:?}");
+    }
+}
+
+impl AddAssign for Dirty {
+    fn add_assign(&mut self, other: Dirty) {
+        self.all += other.all;
+        self.open += other.open;
+        self.open_and_empty += other.open_and_empty;
+        self.cut += other.cut;
+        self.made_up += other.made_up;
     }
 }
 
@@ -31,5 +94,7 @@ impl AddAssign for Made {
         for (sum, more) in self.reasons.iter_mut().zip(other.reasons) {
             *sum += more;
         }
+        self.dirty += other.dirty;
+        self.broken = None;
     }
 }

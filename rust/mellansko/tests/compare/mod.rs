@@ -16,13 +16,15 @@ mod odd;
 mod refusals;
 mod sizes;
 mod starts;
+mod trailers;
 mod words;
 
 use crate::random::Random;
 use crate::strict::{self, Strict};
 use lent::Lent;
-pub use made::Made;
-use reference::log::{append, next, record_bytes, Appended, Next, HEADER, LONGEST_RECORD};
+pub use made::{Dirty, Made};
+use reference::log::{append, next, record_bytes, Appended, Next};
+use reference::log::{BLOCK, HEADER, LONGEST_RECORD};
 
 /// The calls under test. Their answers are the ten words of the C interface. A trait, so that wrong
 /// calls can stand in to see that the comparison notices them.
@@ -92,8 +94,8 @@ impl Comparison<'_> {
             .next(log.tested(), place, limit, buffer.tested_mut());
         let answer = next(log.expected(), place, limit, buffer.expected_mut());
         self.made.calls += 1;
-        if let Next::Skip { reason, .. } = answer {
-            self.made.skipped(reason);
+        if let Next::Skip { start, end, reason } = answer {
+            self.made.skipped(start, end, reason);
         }
         let call = || {
             let (log, buffer) = (log.len(), buffer.len());
@@ -135,7 +137,7 @@ impl Comparison<'_> {
             }
         }
         // docs/FORMAT.md, §6.3.
-        let most = log.len() / HEADER + 1;
+        let most = log.len() / HEADER + 1 + log.len().div_ceil(BLOCK);
         assert!(answers.len() <= most, "{}", self.name("calls of a reading"));
         let records = self.calls.records(log.tested(), limit);
         let same = records == strict::of_answers(&answers);
@@ -144,8 +146,8 @@ impl Comparison<'_> {
     }
 
     /// Any bytes as a log: read to the end with a limit that no record is above, and with one at or
-    /// just below a record's length; then single calls, at a place that came up and at any, with
-    /// any limit and buffer.
+    /// just below a record's length; then single calls, at a place that came up, at any, and at one
+    /// where a trailer is judged, with any limit and buffer.
     fn examine(&mut self, bytes: &[u8]) {
         let log = Lent::new(bytes, &mut self.random);
         let most = bytes.len().min(LONGEST_RECORD);
@@ -155,16 +157,21 @@ impl Comparison<'_> {
         let limit = record.len().saturating_sub(self.random.below(2));
         buffer.cut(limit);
         self.read(&log, limit, &mut buffer);
+        let few_left = few_left(&mut self.random, bytes.len());
         for place in [
             answer.place_after(bytes),
             self.random.below(bytes.len() + 2),
+            few_left,
         ] {
             for _ in 0..3 {
                 let scale = self.random.below(most + 2);
                 let limit = self.random.below(scale + 1);
                 let short = usize::from(self.random.below(8) == 0);
                 buffer.cut(limit.saturating_sub(short).min(most));
-                self.next(&log, place, limit, &mut buffer);
+                let answer = self.next(&log, place, limit, &mut buffer);
+                if place == few_left {
+                    self.made.made_up(&answer);
+                }
             }
         }
     }
@@ -173,4 +180,10 @@ impl Comparison<'_> {
         let bytes = self.random.bytes(length);
         Lent::new(&bytes, &mut self.random)
     }
+}
+
+/// A place in a log of this length where no header fits its block; or the end, if there is none.
+fn few_left(random: &mut Random, length: usize) -> usize {
+    let block = random.below(length / BLOCK + 1) * BLOCK;
+    length.min(block + BLOCK - 1 - random.below(HEADER - 1))
 }

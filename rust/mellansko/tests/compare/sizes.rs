@@ -61,7 +61,7 @@ fn empty_fragments(c: &mut Comparison) {
         let mut bytes = fragment(FIRST, &[1, 2, 3][..data]);
         while bytes.len() < 30 * BLOCK {
             match BLOCK - bytes.len() % BLOCK {
-                left if left < middle.len() => bytes.resize(bytes.len() + left, 0xA5),
+                left if left < middle.len() => bytes.resize(bytes.len() + left, 0),
                 _ => bytes.extend(&middle),
             }
         }

@@ -1,12 +1,12 @@
 //! Logs with one empty start, near a block's end or elsewhere (docs/FORMAT.md, §13).
 
-use super::odd::spoilt;
+use super::odd::{spoilt, trailer};
 use crate::random::Random;
 use reference::log::{fragment, BLOCK, FIRST, FULL, HEADER, MIDDLE};
 
 /// A record that ends some bytes before the end of its block or a small one; an empty FIRST, and
-/// empty MIDDLEs or none; a fragment of any type, sound or not; and a last record. Trailers, of any
-/// bytes, are where no header fits.
+/// empty MIDDLEs or none; a fragment of any type, sound or not; and a last record. Trailers, of
+/// zeros or dirty, are where no header fits.
 pub fn log(random: &mut Random) -> Vec<u8> {
     let before = match random.below(3) {
         0 => random.below(30),
@@ -30,8 +30,9 @@ pub fn log(random: &mut Random) -> Vec<u8> {
 
 /// Adds a fragment, which may be spoilt, after a trailer if there has to be one.
 fn add(random: &mut Random, log: &mut Vec<u8>, kind: u8, data: usize, may_be_spoilt: bool) {
-    if BLOCK - log.len() % BLOCK < HEADER {
-        log.extend(random.bytes(BLOCK - log.len() % BLOCK));
+    let left = BLOCK - log.len() % BLOCK;
+    if left < HEADER {
+        log.extend(trailer(random, left));
     }
     let room = BLOCK - log.len() % BLOCK - HEADER;
     let sound = fragment(kind, &random.bytes(data.min(room)));

@@ -67,6 +67,7 @@ fn reason_number(reason: Reason) -> u8 {
         Reason::UnknownType => 6,
         Reason::OverLimit => 7,
         Reason::EmptyStart => 8,
+        Reason::DirtyTrailer => 9,
         _ => panic!("the format does not have {reason:?}"),
     };
     assert_eq!(reason.number(), number);

@@ -1,10 +1,11 @@
-//! Fragments as no writer puts them, empty starts among them, in pieces of all kinds.
+//! Fragments as no writer puts them, empty starts and dirty trailers among them, in pieces of all
+//! kinds.
 
 use crate::logs::fed;
 use crate::made::Made;
 use crate::make::{any_length, pick};
 use crate::random::Random;
-use crate::{mixed, starts};
+use crate::{mixed, starts, trailers};
 use reference::log::BLOCK;
 
 pub fn all(random: &mut Random) -> Made {
@@ -19,6 +20,11 @@ pub fn all(random: &mut Random) -> Made {
     }
     for _ in 0..400 {
         let log = starts::log(random);
+        let limit = pick(random, &[0, 8, 16, BLOCK]);
+        made += fed(&log, limit, random);
+    }
+    for _ in 0..400 {
+        let log = trailers::log(random);
         let limit = pick(random, &[0, 8, 16, BLOCK]);
         made += fed(&log, limit, random);
     }

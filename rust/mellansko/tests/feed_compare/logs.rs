@@ -1,6 +1,6 @@
 //! Logs of records, whole, cut and damaged, in pieces of all kinds.
 
-use crate::forge::start_empty;
+use crate::forge::{end_in_a_trailer, start_empty};
 use crate::made::Made;
 use crate::make::{any_length, headers, pick, written_log};
 use crate::pair::{Pair, END};
@@ -26,19 +26,21 @@ pub fn all(random: &mut Random) -> Made {
     made
 }
 
-/// A few bytes changed or a stretch of zeros, at a header or anywhere; a cut; or an empty start.
+/// A few bytes changed or a stretch of zeros, at a header or anywhere; a cut; an empty start; or a
+/// trailer, which may be dirty.
 fn damage(log: &mut Vec<u8>, random: &mut Random) {
     let at = match &headers(log)[..] {
         headers @ [_, ..] if random.below(2) == 0 => pick(random, headers) + random.below(8),
         _ => random.below(log.len()),
     };
-    match random.below(6) {
+    match random.below(8) {
         0 => log.truncate(at.max(1)),
         1 => {
             let end = log.len().min(at + any_length(random, 16));
             log[at.min(end)..end].fill(0);
         }
         2 | 3 => start_empty(random, log),
+        4 | 5 => end_in_a_trailer(random, log),
         _ => {
             let at = at.min(log.len() - 1);
             log[at] ^= 1 << random.below(8);

@@ -2,17 +2,18 @@
 
 use crate::made::Made;
 use crate::make::{any_length, written_log};
-use crate::mixed;
 use crate::pair::Pair;
 use crate::random::Random;
+use crate::{mixed, trailers};
 use reference::log::{LONGEST_LOG, LONGEST_RECORD};
 
 pub fn all(random: &mut Random) -> Made {
     let mut made = Made::default();
-    for round in 0..400 {
-        let log = match round % 2 {
+    for round in 0..600 {
+        let log = match round % 3 {
             0 => written_log(random, 2),
-            _ => mixed::log(random, 2_000),
+            1 => mixed::log(random, 2_000),
+            _ => trailers::log(random),
         };
         let limit = any_length(random, 16);
         let mut pair = Pair::begun(limit, random);
@@ -34,7 +35,7 @@ fn call(pair: &mut Pair, log: &[u8], came: &mut usize, random: &mut Random) {
     match random.below(32) {
         0..=11 => {
             let from = (*came).min(log.len());
-            let length = any_length(random, 15).min(log.len() - from);
+            let length = any_length(random, 16).min(log.len() - from);
             let [kind, taken, ..] = pair.take(&log[from..from + length], random);
             *came += if kind == 0 { taken as usize } else { 0 };
         }

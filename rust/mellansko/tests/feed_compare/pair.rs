@@ -83,8 +83,9 @@ impl Pair {
         let kind = feed::next(self.state.tested(), block, buffer, answer.tested());
         let block = self::block(self.block.expected());
         let expected = next_words(self.state.expected(), block, self.buffer.expected_mut());
-        if let [SKIPPED, _, _, reason, ..] = expected {
-            self.made.skipped(reason as u8);
+        if let [SKIPPED, start, end, reason, ..] = expected {
+            self.made
+                .skipped(start as usize, end as usize, reason as u8);
         }
         let call = format!("next with a buffer of {}", self.buffer.len());
         self.same(&call, before, kind, answer, expected)

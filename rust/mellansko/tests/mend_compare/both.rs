@@ -78,8 +78,8 @@ impl Both {
     /// less: a byte, some, and all of them. The buffer is as long as the limit, or a little longer.
     pub fn examine(&mut self, bytes: &[u8], limit: usize) {
         for answer in reading(bytes, limit) {
-            if let Next::Skip { reason, .. } = answer {
-                self.made.skipped(reason);
+            if let Next::Skip { start, end, reason } = answer {
+                self.made.skipped(start, end, reason);
             }
         }
         let bad = Lent::new(bytes, &mut self.random);

@@ -51,11 +51,13 @@ fn two_records(both: &mut Both, before: &[u8], left: usize, length: usize) {
     }
 }
 
-/// A log that ends in a trailer or right after it, with a record before it or a skipped range.
+/// A log that ends in a trailer or right after it, with a record before it, one that is open or a
+/// skipped range.
 fn in_a_trailer(both: &mut Both, left: usize, trailer: usize) {
-    for kind in [FULL, MIDDLE] {
-        let mut log = fragment(kind, &vec![1; BLOCK - HEADER - left]);
-        log.extend(both.random.bytes(trailer));
-        both.examine(&log, BLOCK);
+    for kind in [FULL, FIRST, MIDDLE] {
+        let log = fragment(kind, &vec![1; BLOCK - HEADER - left]);
+        for trailer in [vec![0; trailer], both.random.bytes(trailer)] {
+            both.examine(&[&log[..], &trailer].concat(), BLOCK);
+        }
     }
 }

@@ -3,7 +3,7 @@
 //! torn, and empty starts, which leave nothing there.
 
 use crate::both::Both;
-use crate::lay::lay;
+use crate::lay::{lay, trailers};
 use crate::lent::Lent;
 use crate::make::pick;
 use crate::random::Random;
@@ -77,6 +77,12 @@ fn over_blocks(both: &mut Both, lengths: &[usize], limit: usize) {
     }
     both.examine(&log, limit);
     same_buffer_again(both, &log, limit);
+    // Where a record is open there, it is not gathered.
+    for trailer in trailers(&log) {
+        let mut log = log.clone();
+        log[trailer.start + both.random.below(trailer.len())] = 1;
+        both.examine(&log, limit);
+    }
 }
 
 /// With one buffer and one fresh slice for several calls, as a caller has them.

@@ -1,6 +1,8 @@
 //! Records laid out as no writer does it.
 
+use crate::make::headers;
 use reference::log::{fragment, BLOCK, FIRST, FULL, HEADER, LAST, MIDDLE};
+use std::ops::Range;
 
 /// Adds a record to a log, in fragments whose lengths are chosen by the room that each has.
 pub fn lay(log: &mut Vec<u8>, record: &[u8], mut length: impl FnMut(usize) -> usize) {
@@ -9,8 +11,7 @@ pub fn lay(log: &mut Vec<u8>, record: &[u8], mut length: impl FnMut(usize) -> us
     loop {
         let left = BLOCK - log.len() % BLOCK;
         if left < HEADER {
-            // A trailer, whose bytes are not judged.
-            log.resize(log.len() + left, 0xA5);
+            log.resize(log.len() + left, 0);
         }
         let room = BLOCK - log.len() % BLOCK - HEADER;
         let (data, after) = rest.split_at(length(room).min(room).min(rest.len()));
@@ -27,4 +28,18 @@ pub fn lay(log: &mut Vec<u8>, record: &[u8], mut length: impl FnMut(usize) -> us
         rest = after;
         first = false;
     }
+}
+
+/// The trailers of such a log, but for one that it ends in.
+pub fn trailers(log: &[u8]) -> Vec<Range<usize>> {
+    let end = |place: &usize| {
+        let length = u16::from_le_bytes([log[place + 4], log[place + 5]]);
+        place + HEADER + usize::from(length)
+    };
+    let ends: Vec<usize> = headers(log).iter().map(end).collect();
+    let trailers = ends.into_iter().map(|end| end..end.next_multiple_of(BLOCK));
+    let fits = |range: &Range<usize>| range.len() < HEADER && range.end < log.len();
+    trailers
+        .filter(|range| !range.is_empty() && fits(range))
+        .collect()
 }

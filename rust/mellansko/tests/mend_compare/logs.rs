@@ -4,7 +4,7 @@
 use crate::both::Both;
 use crate::hurt::hurt;
 use crate::make::{any_length, headers, pick, written_log};
-use crate::{mixed, starts};
+use crate::{mixed, starts, trailers};
 use reference::log::{BLOCK, LONGEST_RECORD};
 
 /// At a limit that no record is above; at one that is about as high as a fragment's data, so that
@@ -80,6 +80,14 @@ pub fn odd(both: &mut Both) {
 pub fn starts(both: &mut Both) {
     for _ in 0..300 {
         let log = starts::log(&mut both.random);
+        both.examine(&log, BLOCK);
+    }
+}
+
+/// One trailer in each, with a record open there or not.
+pub fn trailers(both: &mut Both) {
+    for _ in 0..300 {
+        let log = trailers::log(&mut both.random);
         both.examine(&log, BLOCK);
     }
 }

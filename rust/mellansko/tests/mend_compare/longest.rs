@@ -59,23 +59,26 @@ fn journal(both: &mut Both) -> Vec<u8> {
 
 /// As many records as a log can have. The last trailer is left out.
 fn many_records(both: &mut Both) {
-    let log = filled(FULL);
+    let log = filled(FULL, 0);
     let bad = Lent::new(&log, &mut both.random);
     for (fresh, due) in [(LONGEST_LOG - 1, MENDED), (LONGEST_LOG - 2, REFUSED)] {
         assert_eq!(both.with(&bad, fresh, 0, 0)[0], due, "into {fresh}");
     }
 }
 
-/// As many skipped ranges.
+/// As many skipped ranges of seven bytes; and as many as there can be, with a dirty trailer in each
+/// block.
 fn many_orphans(both: &mut Both) {
-    let log = filled(MIDDLE);
-    let bad = Lent::new(&log, &mut both.random);
-    both.with(&bad, 0, 0, 0);
+    for trailer in [0, 1] {
+        let log = filled(MIDDLE, trailer);
+        let bad = Lent::new(&log, &mut both.random);
+        both.with(&bad, 0, 0, 0);
+    }
 }
 
-/// Fragments without data, one after the other; a block then has one byte left.
-fn filled(kind: u8) -> Vec<u8> {
+/// Fragments without data, one after the other; a block then has one byte left, the trailer.
+fn filled(kind: u8, trailer: u8) -> Vec<u8> {
     let mut block = fragment(kind, b"").repeat(BLOCK / HEADER);
-    block.push(0);
+    block.push(trailer);
     block.repeat(LONGEST_LOG / BLOCK)
 }
