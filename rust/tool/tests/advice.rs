@@ -233,6 +233,10 @@ fn a_name_of_any_bytes_can_be_typed() {
         name.iter_mut()
             .filter(|byte| matches!(**byte, 0 | b'/'))
             .for_each(|byte| *byte = b'\'');
+        // These name folders.
+        if matches!(&name[..], b"." | b"..") {
+            continue;
+        }
         let path = folder.file(OsStr::from_bytes(&name), &log);
         let ran = ran(called(own_name(), &folder).arg("verify").arg(&path));
         no_control(ran.text());
