@@ -1,4 +1,4 @@
-//! Where records are missing: all that is in doubt between two that can be read.
+//! Where records may be missing: all that is in doubt between two that can be read.
 
 use crate::words::{blocks, blocks_of, bytes, numbered};
 use mellansko::{Answer, Reason, Tail};

@@ -93,13 +93,13 @@ only records that can be read are counted.
   --all   list every gap and every range, and not the first twenty alone
 
 If no damage is found, all that is in the file reads as records, or as empty starts of records, \
-and nothing is torn. What no reader of this format can tell:
+and nothing is torn; the up to six bytes that fill up a block, where nothing more fits, are zero. \
+What no reader of this format can tell:
 
   - a cut exactly between two records; those after it are missing
   - blocks that are left out, repeated, or replaced by other sound blocks; records are then missing, there twice, or \
 put together from pieces of several
   - bytes made with a right checksum, by somebody or by chance
-  - the up to six bytes that fill up a block, which are not judged
 
 So compare the number of records, and where the last one stands, with what you expect. Full blocks that are equal \
 byte for byte, but not of one byte over and over, get a warning, since one may have been copied over another; the exit \
@@ -109,6 +109,9 @@ An empty start is a record that is begun with no bytes, and then begun again. Ea
 writers left such starts at the ends of blocks, and they count as no damage: as far as a reader \
 can tell, nothing is lost. How many there are is said in a line of its own; mellansko dump lists \
 each. If no such writer wrote the journal, look there: a block that was left out may show so.
+
+Bytes that fill up a block belong to no record, and have to be zeros. \
+Where they are not, something wrote to the file that should not have: that is in doubt too.
 
 A torn end may be the record that was being written when the power went. A damaged length in the last block \
 looks the same, and then records that were written to their end may lie there. A record of more than {RECORD} bytes \
@@ -175,8 +178,8 @@ mellansko map [--blocks N] [--color WHEN] FILE
 
 Draws a journal, a cell for each block of {BLOCK} bytes. Before each row stands its first block's number.
 
-  R   readable: every byte belongs to a record, or to an empty start of one, or fills up the \
-block after the last
+  R   readable: every byte belongs to a record, or to an empty start of one, or is one of the \
+zeros that fill up the block after the last
   D   in doubt: a skipped range that is no empty start has a byte here
   T   torn: the torn tail has a byte here
   X   both

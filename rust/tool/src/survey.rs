@@ -18,6 +18,8 @@ pub struct Survey {
     pub gaps: Gaps,
     /// Why, each reason once.
     pub reasons: Vec<Reason>,
+    /// How many dirty trailers there are.
+    pub dirty_trailers: usize,
     /// Where the torn tail starts, if there is one.
     pub torn: Option<usize>,
     /// What is skipped, and not in doubt.
@@ -50,6 +52,7 @@ impl Survey {
             last: None,
             gaps: Gaps::new(most),
             reasons: Vec::new(),
+            dirty_trailers: 0,
             torn: None,
             empty_starts: EmptyStarts::default(),
             marks: Vec::new(),
@@ -79,6 +82,7 @@ impl Survey {
         match range.reason {
             Some(reason) => {
                 self.mark(first, last, |mark| mark.doubt = true);
+                self.dirty_trailers += usize::from(reason == Reason::DirtyTrailer);
                 if !self.reasons.contains(&reason) {
                     self.reasons.push(reason);
                 }
@@ -102,6 +106,12 @@ impl Survey {
     pub fn may_be_no_journal(&self) -> bool {
         let too_long = self.reasons.contains(&Reason::OverLimit);
         self.last.is_none() && !too_long && self.empty_starts.are_none()
+    }
+
+    /// Whether all that is in doubt are dirty trailers. No record has a byte there: to say that one
+    /// may have been there, or was lost, would be more than is known.
+    pub fn is_only_dirty_trailers(&self) -> bool {
+        self.reasons == [Reason::DirtyTrailer] && self.torn.is_none()
     }
 
     /// How many records can be read.

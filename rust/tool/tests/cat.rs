@@ -3,7 +3,7 @@
 #[macro_use]
 mod common;
 
-use common::damage::{long_logs, mixed_log};
+use common::damage::{dirty_logs, long_logs, mixed_log};
 use common::expect::{grouped, written, Found};
 use common::files::{in_advice, Folder};
 use common::random::Random;
@@ -101,11 +101,13 @@ fn of_damaged_logs_every_record_comes_out_with_the_right_status() {
     println!("{random}");
     let folder = Folder::new("cat-damaged");
     let mut logs = long_logs(&mut random, 6);
+    logs.extend(dirty_logs());
     logs.push(mixed_log());
     for log in logs {
         let file = folder.file("log", &log);
         let found = Found::in_log(&log);
-        let doubt = found.doubtful();
+        let doubt = found.with_room_for_records();
+        let trailers = found.doubtful().len() > doubt.len();
         for (i, (range, bytes)) in found.records.iter().enumerate() {
             let ran = run!("cat", &file, (i + 1).to_string());
             assert_eq!(ran.status, Some(found.status()), "{range:?}: {}", ran.err);
@@ -113,6 +115,8 @@ fn of_damaged_logs_every_record_comes_out_with_the_right_status() {
             let after = doubt.iter().any(|doubt| doubt.start > range.start);
             let says = ["Before it", "After it"].map(|words| ran.err.contains(words));
             assert_eq!(says, [before, after], "{range:?}: {}", ran.err);
+            let says = ran.err.contains("The bytes that fill up ");
+            assert_eq!(says, trailers, "{range:?}: {}", ran.err);
             assert!(ran.out == *bytes, "{range:?}");
         }
         let beyond = (found.records.len() + 1).to_string();

@@ -3,7 +3,7 @@
 #[macro_use]
 mod common;
 
-use common::damage::{long_logs, mixed_log, small_logs};
+use common::damage::{dirty_logs, long_logs, mixed_log, small_logs};
 use common::expect::{dumped, example, longest_log, status_of_dump, written, Found};
 use common::files::Folder;
 use common::random::Random;
@@ -51,8 +51,8 @@ fn damaged_logs_are_listed_as_the_reference_reads_them() {
     for log in small_logs(&mut random).iter().step_by(3) {
         check(log, 262_144);
     }
-    for log in long_logs(&mut random, 20) {
-        check(&log, 262_144);
+    for log in long_logs(&mut random, 20).iter().chain(&dirty_logs()) {
+        check(log, 262_144);
     }
     check(&mixed_log(), 262_144);
 }

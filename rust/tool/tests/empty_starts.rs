@@ -500,7 +500,7 @@ fn help_says_that_they_are_not_in_doubt() {
         ("dump", " 8 empty start: "),
         (
             "map",
-            "every byte belongs to a record, or to an empty start of one, or fills up",
+            "every byte belongs to a record, or to an empty start of one, or is one of the zeros",
         ),
         (
             "map",

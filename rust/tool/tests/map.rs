@@ -3,7 +3,7 @@
 #[macro_use]
 mod common;
 
-use common::damage::{long_logs, mixed_log};
+use common::damage::{dirty_logs, long_logs, mixed_log};
 use common::expect::{count, grouped, longest_log, numbers, without_codes, written, Found};
 use common::files::Folder;
 use common::random::Random;
@@ -130,7 +130,7 @@ fn check_log(log: &[u8], blocks: usize) {
 fn damaged_logs_are_drawn_as_the_reference_reads_them() {
     let mut random = Random::new();
     println!("{random}");
-    for log in long_logs(&mut random, 60) {
+    for log in long_logs(&mut random, 60).into_iter().chain(dirty_logs()) {
         if !log.is_empty() {
             check_log(&log, 1);
         }

@@ -21,7 +21,8 @@ fn in_little_memory(words: &[&str], folder: &Folder) -> Ran {
     ran(shell.args(words).current_dir(&**folder))
 }
 
-/// Blocks of empty fragments of these types in turn, and a trailer: as many answers as there can be.
+/// Blocks of empty fragments of these types in turn, and a trailer of one byte: as many answers as
+/// there can be but for one a block, since the trailer is clean.
 fn of_empty_fragments(types: &[u8], blocks: usize) -> Vec<u8> {
     let kinds = types.iter().cycle().take(BLOCK / HEADER);
     let mut block: Vec<u8> = kinds.flat_map(|&kind| fragment(kind, b"")).collect();

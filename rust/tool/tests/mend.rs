@@ -3,7 +3,7 @@
 #[macro_use]
 mod common;
 
-use common::damage::{long_logs, mixed_log, small_logs};
+use common::damage::{dirty_logs, long_logs, mixed_log, small_logs};
 use common::expect::{count, dumped, example, mended, numbers, written, Found};
 use common::files::Folder;
 use common::random::Random;
@@ -13,9 +13,18 @@ use reference::log::{fragment, BLOCK, FIRST, FULL, HEADER, LAST, MIDDLE};
 use reference::samples;
 use std::fs;
 
-/// What is said wherever something was lost.
-const KEEP: &str = "keep bad. It alone shows that something was lost: \
-                    in the new journal no damage will be found.";
+/// What is said wherever something was left out. With a dirty trailer no record is lost.
+fn keep(found: &Found) -> (&'static str, String) {
+    let (left_out, was) = match found.is_only_dirty_trailers() {
+        true => ("bad: LEFT OUT: ", "wrong"),
+        false => ("bad: LOST: ", "lost"),
+    };
+    let keep = format!(
+        "keep bad. It alone shows that something was {was}: in the new journal no damage will be \
+         found."
+    );
+    (left_out, keep)
+}
 
 /// Mends a log in a folder of its own, and gives what was said and what was made.
 fn mend(folder: &Folder, log: &[u8]) -> (Ran, Vec<u8>) {
@@ -42,7 +51,8 @@ fn check_said(ran: &Ran, found: &Found, new: &[u8]) {
         ),
     };
     assert!(lines[0].starts_with(&kept), "{}", lines[0]);
-    assert_eq!(lines[1].starts_with("bad: LOST: "), !found.is_whole());
+    let (left_out, keep) = keep(found);
+    assert_eq!(lines[1].starts_with(left_out), !found.is_whole());
     assert_eq!(
         lines[1].starts_with("bad: nothing was left out: no damage found"),
         found.is_whole()
@@ -55,7 +65,7 @@ fn check_said(ran: &Ran, found: &Found, new: &[u8]) {
     let rest = check_gaps(found, check_empty_starts(found, &lines[2..]));
     assert!(!rest.iter().any(|line| line.starts_with("  - ")));
     let advice = rest.join(" ");
-    assert_eq!(advice.contains(KEEP), !found.is_whole(), "{advice}");
+    assert_eq!(advice.contains(&keep), !found.is_whole(), "{advice}");
 }
 
 #[test]
@@ -66,6 +76,7 @@ fn of_many_damaged_logs_all_that_can_be_read_is_kept_and_each_loss_told() {
     let mut logs: Vec<Vec<u8>> = small_logs(&mut random).into_iter().step_by(4).collect();
     // No more gaps than are listed.
     logs.extend(long_logs(&mut random, 30));
+    logs.extend(dirty_logs());
     logs.push(mixed_log());
     for log in logs {
         let found = Found::in_log(&log);
@@ -114,13 +125,13 @@ fn a_journal_without_damage_is_the_same_byte_for_byte() {
     }
 }
 
-/// Another writer may part a record where none has to, and what fills up a block is not judged.
+/// Another writer may part a record where none has to, also before the zeros that fill up a block.
 #[test]
 fn records_that_another_writer_stored_otherwise_are_kept_too() {
     let folder = Folder::new("mend-other");
     let parted = [fragment(FIRST, b"LW10-1 "), fragment(LAST, b"0.9137")].concat();
-    let mut filled = written(&[vec![1; BLOCK - HEADER - 3], vec![2]]);
-    filled[BLOCK - 1] = 7;
+    let first = fragment(FIRST, &[1; BLOCK - HEADER - 3]);
+    let filled = [first, vec![0; 3], fragment(LAST, b"2")].concat();
     for log in [parted, filled] {
         let (ran, new) = mend(&folder, &log);
         let found = Found::in_log(&log);

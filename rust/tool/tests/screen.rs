@@ -219,7 +219,7 @@ fn help_claims_no_more_than_is_known() {
     assert!(all.contains("Damage that the format shows is always named"));
     // One by one.
     let points = verify.lines().filter(|line| line.starts_with("  - "));
-    assert_eq!(points.count(), 4, "{verify}");
+    assert_eq!(points.count(), 3, "{verify}");
     for words in HELP {
         let text = ran(tool().args(words)).text().to_lowercase();
         let text = text.split_whitespace().collect::<Vec<_>>().join(" ");

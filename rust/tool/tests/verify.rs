@@ -3,7 +3,7 @@
 #[macro_use]
 mod common;
 
-use common::damage::{long_logs, mixed_log, small_logs};
+use common::damage::{dirty_logs, long_logs, mixed_log, small_logs};
 use common::expect::{count, example, grouped, numbers, written, Found};
 use common::files::Folder;
 use common::random::Random;
@@ -68,7 +68,8 @@ fn the_example_is_cut_as_the_format_page_says() {
     );
     assert!(lines[2].starts_with("  - bytes 98 304 to 106 310 (8006 bytes, block 4): torn"));
 
-    // Inside the trailer nothing shows that a record is gone: the number and the place alone tell.
+    // Inside the trailer, of zeros, nothing shows that a record is gone: the number and the place
+    // alone tell.
     let short = fed(tool().args(["verify", "-"]), &log[..98_300]);
     assert_eq!(
         short.done().lines()[0],
@@ -150,6 +151,7 @@ fn of_many_damaged_logs_each_doubt_is_listed_and_nothing_else() {
     println!("{random}");
     let mut logs = small_logs(&mut random);
     logs.extend(long_logs(&mut random, 40));
+    logs.extend(dirty_logs());
     check_reasons(&logs);
 
     let folder = Folder::new("verify-many");
@@ -188,7 +190,7 @@ fn check_reasons(logs: &[Vec<u8>]) {
     let found: Vec<Found> = logs.iter().map(|log| Found::in_log(log)).collect();
     let skips = found.iter().flat_map(|found| &found.skips);
     let reasons: BTreeSet<u8> = skips.map(|&(_, reason)| reason).collect();
-    assert_eq!(reasons, BTreeSet::from([1, 2, 3, 4, 5, 6]));
+    assert_eq!(reasons, BTreeSet::from([1, 2, 3, 4, 5, 6, 9]));
     assert!(found.iter().any(|found| found.torn.is_some()));
     for whole in [true, false] {
         let has = |found: &Found| !found.empty_starts.is_empty() && found.is_whole() == whole;

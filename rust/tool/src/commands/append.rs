@@ -7,6 +7,7 @@ mod file;
 
 use crate::fed::Fed;
 use crate::journal::{self, why_refused};
+use crate::meaning;
 use crate::page::Page;
 use crate::progress::Progress;
 use crate::screen::Screen;
@@ -69,8 +70,12 @@ fn sound(log: &[u8], path: &OsStr) -> Result<Option<Survey>, Trouble> {
 }
 
 fn tell_doubt(path: &OsStr, survey: &Survey) {
+    let why = match survey.is_only_dirty_trailers() {
+        true => meaning::of_blocks_filled_up(survey.dirty_trailers),
+        false => "After what is in doubt, a record might not be found again".into(),
+    };
     note(&format!(
-        "{}: nothing was appended: {}. After what is in doubt, a record might not be found again.",
+        "{}: nothing was appended: {}. {why}.",
         shown(path),
         survey.verdict()
     ));
@@ -84,8 +89,8 @@ fn tell_doubt(path: &OsStr, survey: &Survey) {
     ));
     if survey.last.is_some() {
         note(&format!(
-            "to write all readable records into a new journal, which will not show that anything \
-             is missing: {}",
+            "to write all readable records into a new journal, which will not show {}: {}",
+            meaning::unseen(survey),
             journal::mend_into_another(path)
         ));
     }

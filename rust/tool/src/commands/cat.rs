@@ -4,6 +4,7 @@ mod harmless;
 
 use crate::gap::Doubt;
 use crate::journal::Source;
+use crate::meaning::of_blocks_filled_up;
 use crate::output::Output;
 use crate::progress::Progress;
 use crate::shell::typed;
@@ -11,7 +12,7 @@ use crate::trouble::{note, Trouble};
 use crate::words::{count, grouped, records, shown};
 use crate::Status;
 use harmless::harmless;
-use mellansko::{Answer, Reading};
+use mellansko::{Answer, Reading, Reason};
 use std::io::{self, IsTerminal};
 
 /// The records that can be read are numbered from 1 on.
@@ -19,35 +20,57 @@ pub fn cat(source: &Source, number: usize, output: &mut Output) -> Result<Status
     let log = source.read(&mut Progress::new())?;
     let mut reading = Reading::of(&log).map_err(|refusal| source.refused(refusal))?;
     let mut found = 0;
-    // The bytes in doubt, before the record and after it.
-    let (mut before, mut after) = (0, 0);
+    let mut doubts = Doubts::default();
     let mut changed = false;
     while let Some(answer) = reading.advance() {
-        let doubt = Doubt::by(&answer, log.len()).map_or(0, |range| range.bytes());
+        let doubt = Doubt::by(&answer, log.len());
         if let Answer::Record { bytes: record, .. } = answer {
             found += 1;
             if found == number {
                 changed = write(&record, output)?;
             }
         }
-        *(if found < number {
-            &mut before
-        } else {
-            &mut after
-        }) += doubt;
+        if let Some(range) = doubt {
+            doubts.add(&range, found < number);
+        }
     }
     if found < number {
-        return Err(missing(source, number, found, before));
+        return Err(missing(source, number, found, &doubts));
     }
     output.flush()?;
     if changed {
         tell_changed(source, number);
     }
-    if before + after == 0 {
+    if doubts == Doubts::default() {
         return Ok(Status::Done);
     }
-    warn(source, number, before, after);
+    warn(source, number, &doubts);
     Ok(Status::Doubt)
+}
+
+/// What is in doubt.
+#[derive(Default, PartialEq, Eq)]
+struct Doubts {
+    /// So many bytes before the record and after it, in which more records may have been.
+    before: usize,
+    after: usize,
+    /// So many dirty trailers: no record has a byte there.
+    trailers: usize,
+}
+
+impl Doubts {
+    fn add(&mut self, range: &Doubt, before: bool) {
+        match range.reason {
+            Some(Reason::DirtyTrailer) => self.trailers += 1,
+            _ if before => self.before += range.bytes(),
+            _ => self.after += range.bytes(),
+        }
+    }
+
+    /// What is said of dirty trailers, if there are any.
+    fn of_trailers(&self) -> Option<String> {
+        (self.trailers > 0).then(|| of_blocks_filled_up(self.trailers))
+    }
 }
 
 /// Writes the record; to a terminal nothing that it would obey, and its last line ended. Says
@@ -74,16 +97,18 @@ fn tell_changed(source: &Source, number: usize) {
     ));
 }
 
-fn missing(source: &Source, number: usize, found: usize, doubt: usize) -> Trouble {
-    let doubt = match doubt {
+fn missing(source: &Source, number: usize, found: usize, doubts: &Doubts) -> Trouble {
+    let doubt = match doubts.before {
         0 => String::new(),
-        _ => format!(
+        bytes => format!(
             ". Another {} in doubt, which may have held more",
-            in_doubt(doubt)
+            in_doubt(bytes)
         ),
     };
+    let trailers = doubts.of_trailers();
+    let trailers = trailers.map_or(String::new(), |said| format!(". {said}"));
     let (number, there) = (grouped(number), records(found));
-    let what = format!("no record {number} can be read; only {there} can be read{doubt}");
+    let what = format!("no record {number} can be read; only {there} can be read{doubt}{trailers}");
     Trouble::of(source.name(), &what)
 }
 
@@ -93,20 +118,23 @@ fn in_doubt(bytes: usize) -> String {
 
 /// What is lost before the record may shift its number, and what is lost after it may be a newer one
 /// that was to take its place.
-fn warn(source: &Source, number: usize, before: usize, after: usize) {
+fn warn(source: &Source, number: usize, doubts: &Doubts) {
     let mut what = format!(
         "this is record {} of those that can be read.",
         grouped(number)
     );
-    if before > 0 {
-        let doubt = in_doubt(before);
+    if doubts.before > 0 {
+        let doubt = in_doubt(doubts.before);
         what += &format!(
             " Before it {doubt} in doubt, so more may have been written before it than its number says."
         );
     }
-    if after > 0 {
-        let doubt = in_doubt(after);
+    if doubts.after > 0 {
+        let doubt = in_doubt(doubts.after);
         what += &format!(" After it {doubt} in doubt, which may have held a newer one.");
+    }
+    if let Some(trailers) = doubts.of_trailers() {
+        what += &format!(" {trailers}.");
     }
     let verify = typed("verify", source.word(), "");
     note(&format!(

@@ -2,7 +2,7 @@
 
 use super::expect::{add, written};
 use super::random::Random;
-use reference::log::{fragment, BLOCK, FIRST, HEADER};
+use reference::log::{fragment, BLOCK, FIRST, FULL, HEADER, LAST, MIDDLE};
 
 /// Small logs: every cut of one with an empty start in it, every byte of it changed, random bytes,
 /// and sound fragments in any order with stretches that are none between them.
@@ -49,6 +49,24 @@ fn pieces(random: &mut Random) -> Vec<u8> {
         log.extend(piece);
     }
     log
+}
+
+/// A dirty trailer of each length: after a record, after the beginning of one, and after an orphan.
+/// Each with more in the next block, and cut inside the trailer or right after it.
+pub fn dirty_logs() -> Vec<Vec<u8>> {
+    let mut logs = Vec::new();
+    for (left, kind) in (1..HEADER).flat_map(|left| [FULL, FIRST, MIDDLE].map(|kind| (left, kind)))
+    {
+        let record = fragment(FULL, &vec![7; BLOCK - 2 * HEADER - left]);
+        let mut log = [record, fragment(kind, b""), vec![0; left]].concat();
+        let place = BLOCK - left.div_ceil(2);
+        log[place] = 1 << left;
+        logs.push(log[..=place].to_vec());
+        log.extend(fragment(LAST, b"1"));
+        log.extend(fragment(FULL, b"2"));
+        logs.push(log);
+    }
+    logs
 }
 
 /// Logs of several blocks, cut or changed or both, near a block's end or anywhere.

@@ -9,6 +9,9 @@ use std::ops::Range;
 /// The only reason that counts as no loss.
 const EMPTY_START: u8 = 8;
 
+/// The only one of a range in which no record has a byte (§14.5).
+const DIRTY_TRAILER: u8 = 9;
+
 /// All that the reference finds in a log, with the highest limit.
 #[derive(Default)]
 pub struct Found {
@@ -52,6 +55,19 @@ impl Found {
     pub fn doubtful(&self) -> Vec<Range<usize>> {
         let skips = self.skips.iter().map(|(range, _)| range.clone());
         skips.chain(self.torn_tail()).collect()
+    }
+
+    /// Those in which records may have been.
+    pub fn with_room_for_records(&self) -> Vec<Range<usize>> {
+        let skips = self.skips.iter();
+        let skips = skips.filter(|(_, reason)| *reason != DIRTY_TRAILER);
+        let ranges = skips.map(|(range, _)| range.clone());
+        ranges.chain(self.torn_tail()).collect()
+    }
+
+    /// Whether there is doubt, but in dirty trailers alone.
+    pub fn is_only_dirty_trailers(&self) -> bool {
+        !self.is_whole() && self.with_room_for_records().is_empty()
     }
 
     pub fn torn_tail(&self) -> Option<Range<usize>> {

@@ -3,8 +3,8 @@
 use super::expect::{block_numbers, numbers, Found, Gap};
 use reference::log::BLOCK;
 
-/// As docs/FORMAT.md names the reasons for doubt, §4.7.
-const NAMES: [&str; 7] = [
+/// As docs/FORMAT.md names the reasons, §4.7.
+const NAMES: [&str; 9] = [
     "bad length",
     "blank",
     "checksum",
@@ -12,6 +12,8 @@ const NAMES: [&str; 7] = [
     "orphan",
     "unknown type",
     "over the limit",
+    "empty start",
+    "dirty trailer",
 ];
 
 /// Holds the lines on one journal to the reference: the answer, what is said of empty starts, and

@@ -68,6 +68,9 @@ fn lost(mending: &Mending) -> String {
     let (bad, survey) = (shown(mending.names.bad), &mending.survey);
     match survey.status() {
         Status::Done => format!("{bad}: nothing was left out: {}.", survey.verdict()),
+        _ if survey.is_only_dirty_trailers() => {
+            format!("{bad}: LEFT OUT: {}.", survey.doubtful())
+        }
         _ => format!("{bad}: LOST: {}.", survey.doubtful()),
     }
 }
@@ -80,8 +83,12 @@ fn advice(mending: &Mending, screen: Screen) -> Page {
         return page;
     }
     page.empty_row();
+    let was = match survey.is_only_dirty_trailers() {
+        true => "wrong",
+        false => "lost",
+    };
     page.prose(&format!(
-        "What to do now: keep {}. It alone shows that something was lost: in the new journal no \
+        "What to do now: keep {}. It alone shows that something was {was}: in the new journal no \
          damage will be found.",
         shown(bad)
     ));
@@ -96,6 +103,7 @@ fn advice(mending: &Mending, screen: Screen) -> Page {
     let cases = [
         meaning::of_gaps(survey, "in the new journal"),
         meaning::of_long_records(survey),
+        meaning::of_dirty_trailers(survey),
         meaning::of_torn_end(survey, "The bad journal's"),
     ];
     cases.iter().flatten().for_each(|case| page.prose(case));

@@ -53,8 +53,11 @@ fn by_case(survey: &Survey) -> Vec<String> {
     let torn = meaning::of_torn_end(survey, "Its");
     let torn = torn.map(|torn| format!("{torn} To go on, begin a new journal."));
     let gaps = meaning::of_gaps(survey, "handed out");
-    let cases = [gaps, meaning::of_long_records(survey), torn];
-    cases.into_iter().flatten().collect()
+    let (long, dirty) = (
+        meaning::of_long_records(survey),
+        meaning::of_dirty_trailers(survey),
+    );
+    [gaps, long, dirty, torn].into_iter().flatten().collect()
 }
 
 /// What can be typed next.
@@ -95,10 +98,10 @@ fn new_journals(finding: &Finding, page: &mut Page) {
         return;
     };
     if finding.source.can_be_read_again() {
-        page.prose(
-            "All readable records into a new journal, which will not show that anything is \
-             missing:",
-        );
+        page.prose(&format!(
+            "All readable records into a new journal, which will not show {}:",
+            meaning::unseen(&finding.survey)
+        ));
         page.command(&mend_into_another(path));
     }
     if finding.survey.torn.is_some() {
