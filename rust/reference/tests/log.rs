@@ -1,6 +1,9 @@
 //! The reference's log against the format: the rows M of "Marked runs" (9 and 10, of the mask, are
 //! in tests/crc32c.rs), the lists of "Run and compared", and the table of two rows.
 
+mod answers;
+
+use answers::{record, skip};
 use reference::log::{
     append, fragment, next, record_bytes, Appended, Next, Stored, Tail, LONGEST_LOG, LONGEST_RECORD,
 };
@@ -239,19 +242,6 @@ fn handed(records: &[Vec<u8>; 3]) -> [(Next, Vec<u8>); 3] {
         record(98_304, 106_311, 8_000, Stored::Whole(98_311)),
     ];
     [0, 1, 2].map(|i| (lines[i], records[i].clone()))
-}
-
-fn record(start: usize, end: usize, length: usize, stored: Stored) -> Next {
-    Next::Record {
-        start,
-        end,
-        length,
-        stored,
-    }
-}
-
-fn skip(start: usize, end: usize, reason: u8) -> Next {
-    Next::Skip { start, end, reason }
 }
 
 fn refused(number: u8) -> Appended {

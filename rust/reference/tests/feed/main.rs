@@ -14,6 +14,10 @@ mod sums;
 mod trailers;
 mod words;
 
+// A part of it.
+#[allow(dead_code)]
+#[path = "../answers/mod.rs"]
+mod answers;
 #[path = "../dirty/mod.rs"]
 mod dirty;
 #[path = "../../../mellansko/tests/compare/odd.rs"]

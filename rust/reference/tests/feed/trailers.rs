@@ -2,6 +2,7 @@
 //! pieces of many sizes and cut anywhere. With a record open the moment of reason 4 is the dirty
 //! byte; that of reason 9 is the block's end, or the log's.
 
+use crate::answers::skip;
 use crate::fed::Fed;
 use crate::moments::every_moment;
 use crate::random::Random;
@@ -66,10 +67,6 @@ impl Log {
         ];
         interrupted.into_iter().chain(rest).collect()
     }
-}
-
-fn skip(start: usize, end: usize, reason: u8) -> Next {
-    Next::Skip { start, end, reason }
 }
 
 /// What comes before the trailer has come and is drawn.

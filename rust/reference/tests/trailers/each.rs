@@ -2,6 +2,7 @@
 //! and an empty record open: all of the log, cut at every place of the trailer, called at every
 //! place of it, and mended.
 
+use crate::answers::{record, skip};
 use reference::log::{
     fragment, next, Next, Stored, Tail, BLOCK, FIRST, FULL, HEADER, LAST, LONGEST_RECORD, MIDDLE,
 };
@@ -91,19 +92,6 @@ impl Log {
             _ => skip(BLOCK, end, 5),
         }
     }
-}
-
-fn record(start: usize, end: usize, length: usize, stored: Stored) -> Next {
-    Next::Record {
-        start,
-        end,
-        length,
-        stored,
-    }
-}
-
-fn skip(start: usize, end: usize, reason: u8) -> Next {
-    Next::Skip { start, end, reason }
 }
 
 fn read(log: &[u8]) -> Vec<Next> {

@@ -6,6 +6,8 @@ mod account;
 mod calls;
 mod each;
 
+#[path = "../answers/mod.rs"]
+mod answers;
 #[path = "../dirty/mod.rs"]
 mod dirty;
 #[path = "../../../mellansko/tests/compare/forge.rs"]
