@@ -4,3 +4,5 @@ pub mod Table
 pub mod Bytes
 pub mod Xor
 pub mod Laws
+pub mod Promises
+pub mod Theorems
