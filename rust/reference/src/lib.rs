@@ -10,4 +10,4 @@ pub mod runs;
 pub mod samples;
 pub mod vectors;
 
-pub use crc32c::{crc32c, crc32c_by_bytes, mask, CRC32C_TABLE};
+pub use crc32c::{crc32c, crc32c_by_bytes, crc32c_extend, extend_by_bytes, mask, CRC32C_TABLE};

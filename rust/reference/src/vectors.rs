@@ -1,6 +1,6 @@
 //! Published test vectors of CRC32C, and the output that the proved program over them is held to.
 
-use crate::{crc32c, mask};
+use crate::{crc32c, crc32c_extend, mask};
 use std::fmt::Write;
 
 /// What is summed, and the checksum that its document publishes.
@@ -61,7 +61,7 @@ fn read_command() -> Vec<u8> {
 }
 
 /// What the program `run_crc32c` writes: a line for each vector, and for "123456789" after each
-/// type byte of the log format.
+/// type byte of the log format; then one for each place at which each vector can be cut.
 pub fn listing() -> String {
     let mut lines = String::new();
     let mut line = |name: &str, bytes: &[u8]| {
@@ -77,5 +77,25 @@ pub fn listing() -> String {
             &[&[kind], &b"123456789"[..]].concat(),
         );
     }
+    for vector in published() {
+        let cuts = 0..=vector.bytes.len();
+        lines.extend(cuts.map(|cut| cut_line(&vector, cut)));
+    }
     lines
+}
+
+/// The line of a vector cut at a place: the checksum of the bytes before the cut, what carrying on
+/// from it over the others gives, and at how many places the others can be cut again for the same.
+fn cut_line(vector: &Vector, cut: usize) -> String {
+    let (name, bytes) = (vector.name, &vector.bytes[..]);
+    let first = crc32c(&bytes[..cut]);
+    let whole = crc32c_extend(first, &bytes[cut..]);
+    let in_three = |again: usize| {
+        let goes = [&bytes[..cut], &bytes[cut..again], &bytes[again..]];
+        goes.into_iter().fold(0, crc32c_extend)
+    };
+    let same = (cut..=bytes.len())
+        .filter(|again| in_three(*again) == whole)
+        .count();
+    format!("{first:08x} {whole:08x} {same} {name}, cut at {cut}\n")
 }

@@ -9,7 +9,7 @@ mod empty_start;
 use reference::feed::{self, Told};
 use reference::log::{append, next, Appended, Next, Stored, Tail, BLOCK};
 use reference::mend::{mend, Mended};
-use reference::{crc32c, mask, CRC32C_TABLE};
+use reference::{crc32c, crc32c_extend, mask, CRC32C_TABLE};
 
 const PAGE: &str = include_str!("../../../docs/FORMAT.md");
 
@@ -113,6 +113,36 @@ fn checksums() {
     let xored = format!("0x{:08X}", CRC32C_TABLE[128]);
     says(&text, &format!("by one and xor-ed with {xored}, otherwise"));
     says(&text, &format!("number 128 is {xored}."));
+}
+
+#[test]
+fn checksums_carried_on() {
+    let text = part("§2.8", "**§2.9**");
+    let none = crc32c(b"");
+    says(
+        &text,
+        &format!("The checksum of no bytes is {none}, and carrying on from {none} over A gives"),
+    );
+    let first = crc32c(b"1234");
+    let whole = crc32c_extend(first, b"56789");
+    assert_eq!(whole, crc32c(b"123456789"));
+    says(
+        &text,
+        &format!(
+            "the checksum of `1234` is 0x{first:08X}, and carrying on from that over `56789` gives \
+             0x{whole:08X}, as in §2.4."
+        ),
+    );
+}
+
+#[test]
+fn checksums_of_the_types() {
+    let text = part("§2.9", "## 3.");
+    let [a, b, c, d] = [1, 2, 3, 4].map(|kind| format!("0x{:08X}", crc32c(&[kind])));
+    says(
+        &text,
+        &format!("the checksums of the single bytes 01, 02, 03 and 04 are {a}, {b}, {c} and {d}."),
+    );
 }
 
 const RECORDS: [&[u8]; 2] = [b"LW10-1 0.9137", b"LW11 0.8412"];
