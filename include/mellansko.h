@@ -424,9 +424,25 @@ uint64_t mellansko_mend(const uint8_t *bad, size_t bad_len, uint8_t *fresh, size
 
 /* ---- the checksum */
 
-/* The CRC32C of any number of bytes, as in RFC 3720; of none, 0. */
+/*
+ * Carries on over any number of bytes (bytes, bytes_len) from the checksum of what came before, and
+ * returns the checksum of all of it (2.8): a CRC32C, as in RFC 3720. If nothing came before,
+ * `checksum` is 0. Over no bytes, `checksum` is given back. The checksum of A followed by B, each a
+ * pointer and a length, is mellansko_crc32c(mellansko_crc32c(0, A), B). Each call makes a table
+ * before its first byte, so that a few long goes take less time than many short ones.
+ *
+ * What is carried on from is the checksum, not its masked form, and may be any number. zlib's crc32
+ * carries on in the same way, but also takes NULL, and then gives the number to begin with. Here
+ * too that is 0, but bytes is not NULL, not even with length 0.
+ *
+ * What a fragment's header stores is that of the type byte first and then the data, masked (2.4,
+ * 2.5):
+ *
+ *   uint32_t sum = mellansko_crc32c(0, &type, 1);
+ *   uint32_t stored = mellansko_mask(mellansko_crc32c(sum, data, data_len));
+ */
 MELLANSKO_KEEP MELLANSKO_NOT_NULL MELLANSKO_PURE
-uint32_t mellansko_crc32c(const uint8_t *bytes, size_t bytes_len);
+uint32_t mellansko_crc32c(uint32_t checksum, const uint8_t *bytes, size_t bytes_len);
 
 /* The masked form (2.5) of a CRC32C, in which a header stores that of its type and data (2.4). */
 MELLANSKO_KEEP MELLANSKO_PURE

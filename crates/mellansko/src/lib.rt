@@ -5,7 +5,7 @@ mod mend;
 
 ghost use mathlib.Core.Path.{_≡_};
 ghost use lib.ListN.{length};
-ghost use Rattle.crc32c.specs.Crc32c.{crc};
+ghost use Rattle.crc32c.specs.Crc32c.{extend};
 ghost use Rattle.crc32c.specs.Mask.{mask};
 ghost use Rattle.log_format.specs.Format.Fragment.{firstEdition};
 ghost use Rattle.log_format.specs.Format.Calls.{appendOf, nextOf};
@@ -14,10 +14,10 @@ use crc32c::Crc32c;
 use crc32c::Mask;
 
 #[no_mangle]
-pub extern "C" fn mellansko_crc32c(bytes: &[u8]) -> u32
-    ensures { λ r. ⌜ r ≡ crc (now (bytes .entry)) ⌝ }
+pub extern "C" fn mellansko_crc32c(checksum: u32, bytes: &[u8]) -> u32
+    ensures { λ r. ⌜ r ≡ extend checksum (now (bytes .entry)) ⌝ }
 {
-    Crc32c::of(bytes)
+    Crc32c::extend(checksum, bytes)
 }
 
 #[no_mangle]

@@ -47,7 +47,7 @@ pub fn asked(bytes: &[u8]) {
 pub fn sum(name: &[u8], bytes: &[u8]) {
     text(name);
     text(b" crc32c ");
-    io::print_hex(STDOUT_FILENO, Crc32c::of(bytes) as u64, 8);
+    io::print_hex(STDOUT_FILENO, Crc32c::extend(0, bytes) as u64, 8);
     text(b"\n");
 }
 

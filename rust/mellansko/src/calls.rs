@@ -64,15 +64,43 @@ pub fn next(
     meaning::next(kind, &answer)
 }
 
-/// The CRC32C of some bytes.
+/// Carries on over bytes from the checksum of what came before, and gives the checksum of all of it:
+/// a CRC32C. If nothing came before, `checksum` is 0. Over no bytes, `checksum` is given back.
+///
+/// So bytes can be summed in several goes, wherever they are cut. Each call makes a table before
+/// its first byte, so that a few long goes take less time than many short ones.
 ///
 /// ```
-/// assert_eq!(mellansko::crc32c(b"123456789"), 0xe306_9283);
+/// use mellansko::crc32c;
+///
+/// assert_eq!(crc32c(0, b"123456789"), 0xe306_9283);
+/// assert_eq!(crc32c(crc32c(0, b"1234"), b"56789"), 0xe306_9283);
+///
+/// let pieces = ["12", "", "345", "6789"].map(str::as_bytes);
+/// let sum = pieces.iter().fold(0, |sum, piece| crc32c(sum, piece));
+/// assert_eq!(sum, 0xe306_9283);
+/// assert_eq!(crc32c(sum, &[]), sum);
+/// ```
+///
+/// A log stores the checksum of a fragment's type byte and then its data, in its
+/// [masked form](mask), the lowest byte first. What is carried on from is the checksum, not that
+/// form:
+///
+/// ```
+/// use mellansko::{crc32c, mask};
+///
+/// let mut log = [0; 12];
+/// mellansko::append(&mut log, 0, b"LW10-")?;
+/// // Type 1 is that of a fragment that holds a whole record.
+/// let sum = crc32c(0, &[1]);
+/// let sum = crc32c(sum, b"LW10-");
+/// assert_eq!(log[..4], mask(sum).to_le_bytes());
+/// # Ok::<(), mellansko::Refusal>(())
 /// ```
 #[inline]
 #[must_use]
-pub fn crc32c(bytes: &[u8]) -> u32 {
-    numbers::crc32c(bytes)
+pub fn crc32c(checksum: u32, bytes: &[u8]) -> u32 {
+    numbers::crc32c(checksum, bytes)
 }
 
 /// The form in which a log stores a CRC32C.

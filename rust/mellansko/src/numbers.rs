@@ -14,7 +14,7 @@ mod mend;
 pub use mend::mend;
 
 extern "C" {
-    fn mellansko_crc32c(bytes: *const u8, bytes_len: usize) -> u32;
+    fn mellansko_crc32c(checksum: u32, bytes: *const u8, bytes_len: usize) -> u32;
     fn mellansko_mask(crc: u32) -> u32;
     fn mellansko_append(
         log: *mut u8,
@@ -42,9 +42,9 @@ pub type Numbers = [u64; 10];
 pub(crate) const UNWRITTEN: Numbers = [0; 10];
 
 #[inline]
-pub(crate) fn crc32c(bytes: &[u8]) -> u32 {
+pub(crate) fn crc32c(checksum: u32, bytes: &[u8]) -> u32 {
     // SAFETY: the call requires nothing, reads the slice alone and keeps nothing of it.
-    unsafe { mellansko_crc32c(bytes.as_ptr(), bytes.len()) }
+    unsafe { mellansko_crc32c(checksum, bytes.as_ptr(), bytes.len()) }
 }
 
 #[inline]

@@ -189,20 +189,38 @@ static void mend(int line, size_t bad_len, size_t fresh_len, size_t limit, size_
 #define MEND_REFUSED(bad_len, fresh_len, limit, buffer_len, number) \
     MEND(bad_len, fresh_len, limit, buffer_len, now.log, MELLANSKO_MEND_REFUSED, number)
 
-/* A fragment of the record's first bytes. */
-static void put(size_t place, uint8_t type, size_t length)
+/* A fragment of the record's first bytes, fewer than 256. */
+static void put(size_t place, uint8_t type, size_t data_len)
 {
-    uint8_t summed[100];
-    uint32_t sum;
+    const uint8_t *data = now.record;
+    uint32_t sum = mellansko_crc32c(0, &type, 1);
+    uint32_t stored = mellansko_mask(mellansko_crc32c(sum, data, data_len));
     size_t i;
-    summed[0] = type;
-    memcpy(summed + 1, now.record, length);
-    sum = mellansko_mask(mellansko_crc32c(summed, 1 + length));
     for (i = 0; i < 4; i++)
-        now.log[place + i] = (uint8_t)(sum >> (8 * i));
-    now.log[place + 4] = (uint8_t)length;
+        now.log[place + i] = (uint8_t)(stored >> (8 * i));
+    now.log[place + 4] = (uint8_t)data_len;
     now.log[place + 5] = 0;
-    memcpy(now.log + place + 6, summed, 1 + length);
+    now.log[place + 6] = type;
+    memcpy(now.log + place + HEADER, data, data_len);
+}
+
+/* Exactly these types, or it does not compile: a call alone would convert to others. */
+uint32_t mellansko_crc32c(uint32_t, const uint8_t *, size_t);
+uint32_t mellansko_mask(uint32_t);
+
+static void checksums(void)
+{
+    const uint8_t digits[] = "123456789";
+    const uint32_t first = mellansko_crc32c(0, digits, 4);
+    CHECK(mellansko_crc32c(0, digits, 9) == 0xE3069283);
+    CHECK(first == 0xF63AF4EE);
+    CHECK(mellansko_crc32c(first, digits + 4, 5) == 0xE3069283);
+    CHECK(mellansko_crc32c(0, digits, 0) == 0);
+    CHECK(mellansko_crc32c(1, digits, 0) == 1);
+    CHECK(mellansko_crc32c(first, digits + 4, 0) == first);
+    CHECK(mellansko_crc32c(0x80000000, digits, 0) == 0x80000000);
+    CHECK(mellansko_crc32c(UINT32_MAX, digits, 0) == UINT32_MAX);
+    CHECK(mellansko_mask(1) == 0xA284EAD8);
 }
 
 /* Which word a name stands for: what the calls write there, the expected answers below say. */
@@ -513,13 +531,10 @@ static void refused_mendings(void)
 
 int main(void)
 {
-    const uint8_t digits[] = "123456789";
     size_t i;
     for (i = 0; i < sizeof now; i++)
         ((uint8_t *)&now)[i] = (uint8_t)(i % 251);
-    CHECK(mellansko_crc32c(digits, 9) == 0xE3069283);
-    CHECK(mellansko_crc32c(digits, 0) == 0);
-    CHECK(mellansko_mask(1) == 0xA284EAD8);
+    checksums();
     names();
     sizes();
     refused_appends();

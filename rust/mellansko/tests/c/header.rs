@@ -1,6 +1,8 @@
 //! include/mellansko.h: its figures, names, texts and warnings.
 
-use crate::folder::{root, Folder, Way, C, CLANG, CLANG_CPP, CPP, OLD_CPP, PLAIN_CPP, SANITIZED};
+use crate::folder::{
+    root, text, Folder, Way, C, CLANG, CLANG_CPP, CPP, OLD_CPP, PLAIN_CPP, SANITIZED,
+};
 use crate::{reason_text, refusal_text};
 use mellansko::{Condition, Reason};
 
@@ -11,6 +13,18 @@ fn it_says_what_the_calls_do() {
     for way in folder.there(&[C, CLANG, SANITIZED]) {
         assert_eq!(folder.run(way, &source), "", "{way:?}");
     }
+}
+
+/// The lines that it shows are among those that the test above runs.
+#[test]
+fn its_example_of_a_checksum_is_run() {
+    let [header, source] = ["include/mellansko.h", "rust/mellansko/tests/c/header.c"].map(text);
+    let shown = header
+        .lines()
+        .filter_map(|line| line.strip_prefix(" *   uint32_t "));
+    let lines: Vec<String> = shown.map(|line| format!("    uint32_t {line}\n")).collect();
+    assert_eq!(lines.len(), 2, "{lines:?}");
+    assert!(source.contains(&lines.concat()), "{lines:?}");
 }
 
 /// It includes what it needs, can be included twice, and C++ takes it too.
@@ -99,7 +113,7 @@ const CALLS: [&str; 8] = [
     "mellansko_feed_begin(2, &feed, &answer)",
     "mellansko_feed_take(&feed, block, log, 9, &answer)",
     "mellansko_feed_next(&feed, block, record, 2, &answer)",
-    "mellansko_crc32c(record, 2)",
+    "mellansko_crc32c(0, record, 2)",
     "mellansko_mask(7)",
 ];
 
@@ -149,7 +163,8 @@ fn a_pointer_that_is_null_is_warned_of() {
             "mellansko_feed_next(&feed, NULL, record, 2, &answer)",
             "mellansko_feed_next(&feed, block, NULL, 2, &answer)",
             "mellansko_feed_next(&feed, block, record, 2, NULL)",
-            "mellansko_crc32c(NULL, 2)",
+            "mellansko_crc32c(0, NULL, 2)",
+            "mellansko_crc32c(0, NULL, 0)",
         ] {
             fails(&folder, way, &program(&format!("used({call})")), "nonnull");
         }
@@ -162,13 +177,25 @@ fn a_pointer_that_is_null_is_warned_of() {
     }
 }
 
+/// A program that does not say what came before, since the call once took bytes alone, learns of it
+/// from every compiler, also one that is not told to refuse what it warns of.
+#[test]
+fn a_checksum_of_bytes_alone_does_not_compile() {
+    let folder = Folder::new("alone-summed");
+    let ways = [C, CLANG, SANITIZED, CPP, CLANG_CPP, OLD_CPP, PLAIN_CPP];
+    for way in folder.there(&ways) {
+        let source = program("used(mellansko_crc32c(record, 2))");
+        fails(&folder, way, &source, "arguments");
+    }
+}
+
 fn compiles(folder: &Folder, way: Way, source: &str) {
     let compiled = folder.compiled(way, source);
     let said = String::from_utf8_lossy(&compiled.stderr);
     assert!(compiled.status.success(), "{way:?}\n{source}\n{said}");
 }
 
-/// The warning, which is an error, names this.
+/// The compiler refuses it, by an error or a warning that is made one, and that names this.
 fn fails(folder: &Folder, way: Way, source: &str, names: &str) {
     let compiled = folder.compiled(way, source);
     let said = String::from_utf8_lossy(&compiled.stderr);
