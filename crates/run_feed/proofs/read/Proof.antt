@@ -27,6 +27,7 @@ returns : tie.Need-returns Inv-loop μ-loop
 returns c = search needs
 
 loop-less : tie.Need-loop-less Inv-loop μ-loop
+unfolding longestLog
 loop-less c = search needs
 
 loop-again : tie.Need-loop-again Inv-loop μ-loop
