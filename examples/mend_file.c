@@ -15,6 +15,9 @@
  * reader can tell, examples/read_file.c says where. Not counted as skipped are empty starts, which
  * are no loss, and a torn tail, which is lost too. So keep BAD.
  *
+ * It holds both journals in memory, each with as many bytes as BAD has: a mended journal is never
+ * longer than the bad one.
+ *
  * The exit status is 0 if NEW is written, whatever was skipped. It is 2 if not, or if the lines
  * could not be printed.
  */
@@ -24,15 +27,16 @@
 #include <inttypes.h>
 #include <signal.h>
 #include <stdio.h>
+#include <stdlib.h>
 #include <string.h>
+#include <sys/stat.h>
 #include <unistd.h>
 
 #include "mellansko.h"
 
-/* One byte more than a log may have, by which a file that is too long shows. */
-static uint8_t bad[MELLANSKO_LONGEST_LOG + 1];
-/* As long as a log may be: a mended one is never longer than the bad one. */
-static uint8_t fresh[MELLANSKO_LONGEST_LOG];
+/* Both journals, and how many bytes each has room for: one more than BAD has. */
+static uint8_t *bad, *fresh;
+static size_t room;
 static uint8_t buffer[MELLANSKO_LONGEST_RECORD];
 
 static int fail(const char *name, const char *why)
@@ -41,19 +45,35 @@ static int fail(const char *name, const char *why)
     return 0;
 }
 
+/* Takes the memory for a file and for what is made of it, and gives whether it could. */
+static int make_room(FILE *file, const char *name)
+{
+    struct stat about;
+    if (fstat(fileno(file), &about) != 0)
+        return fail(name, strerror(errno));
+    if (!S_ISREG(about.st_mode))
+        return fail(name, "it is not a plain file, and only such a one has a length");
+    if (about.st_size > MELLANSKO_LONGEST_LOG)
+        return fail(name, mellansko_refusal_text(MELLANSKO_LOG_TOO_LONG));
+    /* A file that has grown meanwhile shows by the byte more. */
+    room = (size_t)about.st_size + 1;
+    bad = malloc(room);
+    fresh = malloc(room);
+    return bad != NULL && fresh != NULL ? 1 : fail(name, strerror(errno));
+}
+
 /* Reads all of a file, and gives whether it could. */
-static int read_file(const char *name, size_t *length)
+static int read_file(const char *name)
 {
     FILE *file = fopen(name, "rb");
-    int failed;
+    int whole;
     if (file == NULL)
         return fail(name, strerror(errno));
-    *length = fread(bad, 1, sizeof bad, file);
-    failed = ferror(file);
-    if (failed)
-        fail(name, strerror(errno));
+    whole = make_room(file, name);
+    if (whole && (fread(bad, 1, room, file) != room - 1 || ferror(file)))
+        whole = fail(name, ferror(file) ? strerror(errno) : "its length and its bytes differ");
     fclose(file); /* it was only read: nothing is lost if this fails */
-    return !failed;
+    return whole;
 }
 
 /* Writes all of the fresh log's first bytes, however many calls that takes, and on to the disk. */
@@ -93,15 +113,16 @@ static int put(const char *name, size_t length)
     return 0;
 }
 
-/* Mends the bad log's first bytes into a new file, and gives whether that is there and was said. */
-static int mend(const char *bad_name, size_t length, const char *new_name)
+/* Mends the bad log into a new file, and gives whether that is there and was said. */
+static int mend(const char *bad_name, const char *new_name)
 {
     struct mellansko_answer answer;
-    switch (mellansko_mend(bad, length, fresh, sizeof fresh, sizeof buffer, buffer, sizeof buffer,
+    size_t length = room - 1;
+    switch (mellansko_mend(bad, length, fresh, length, sizeof buffer, buffer, sizeof buffer,
                            &answer)) {
     case MELLANSKO_MENDED:
         break;
-    default: /* MELLANSKO_MEND_REFUSED: here only of a log that is too long */
+    default: /* MELLANSKO_MEND_REFUSED: of no call that is made here */
         return fail(bad_name, mellansko_refusal_text(answer.refused.number));
     }
     if (!put(new_name, (size_t)answer.mended.length))
@@ -117,12 +138,15 @@ static int mend(const char *bad_name, size_t length, const char *new_name)
 
 int main(int count, char **words)
 {
-    size_t length;
+    int done;
     if (count != 3) {
         fprintf(stderr, "usage: mend_file BAD NEW\n");
         return 2;
     }
     /* A write above the size that files may have then fails, and does not end the program. */
     signal(SIGXFSZ, SIG_IGN);
-    return read_file(words[1], &length) && mend(words[1], length, words[2]) ? 0 : 2;
+    done = read_file(words[1]) && mend(words[1], words[2]);
+    free(bad);
+    free(fresh);
+    return done ? 0 : 2;
 }

@@ -5,48 +5,75 @@
  *   cc -std=c99 -Iinclude examples/read_file.c target/staticlib/libmellansko.a -o read_file &&
  *   ./read_file samples/damaged.log
  *
+ * It holds all of the file in memory, and a record. examples/feed_stdin.c prints the same of a
+ * journal on standard input, a file or a pipe, and holds a block and a record.
+ *
  * The exit status is 0 if no damage was found, 1 if something is in doubt, 2 if the file could not
  * be read, or the lines not be printed.
  */
+#define _POSIX_C_SOURCE 200809L
 #include <errno.h>
 #include <inttypes.h>
 #include <stdio.h>
+#include <stdlib.h>
 #include <string.h>
+#include <sys/stat.h>
 
 #include "mellansko.h"
 
 /* The exit status. */
 enum { NO_DAMAGE = 0, IN_DOUBT = 1, NOT_READ = 2 };
 
-/* One byte more than a log may have, by which a file that is too long shows. */
-static uint8_t log_bytes[MELLANSKO_LONGEST_LOG + 1];
 static uint8_t buffer[MELLANSKO_LONGEST_RECORD];
 
-/* Reads all of a file, and gives whether it could. */
-static int read_file(const char *name, size_t *length)
+static uint8_t *fail(const char *name, const char *why)
+{
+    fprintf(stderr, "%s: could not be read: %s\n", name, why);
+    return NULL;
+}
+
+/* Reads the file into memory, to be freed; gives NULL if it could not. */
+static uint8_t *read_all(FILE *file, const char *name, size_t *length)
+{
+    struct stat about;
+    uint8_t *bytes;
+    if (fstat(fileno(file), &about) != 0)
+        return fail(name, strerror(errno));
+    if (!S_ISREG(about.st_mode))
+        return fail(name, "it is not a plain file, and only such a one has a length");
+    if (about.st_size > MELLANSKO_LONGEST_LOG)
+        return fail(name, mellansko_refusal_text(MELLANSKO_LOG_TOO_LONG));
+    *length = (size_t)about.st_size;
+    bytes = malloc(*length + 1);
+    if (bytes == NULL)
+        return fail(name, strerror(errno));
+    /* One byte more is asked for: by it a file that has grown meanwhile shows. */
+    if (fread(bytes, 1, *length + 1, file) == *length && !ferror(file))
+        return bytes;
+    fail(name, ferror(file) ? strerror(errno) : "its length and its bytes differ");
+    free(bytes);
+    return NULL;
+}
+
+static uint8_t *read_file(const char *name, size_t *length)
 {
     FILE *file = fopen(name, "rb");
-    int failed;
-    if (file == NULL) {
-        fprintf(stderr, "%s: %s\n", name, strerror(errno));
-        return 0;
-    }
-    *length = fread(log_bytes, 1, sizeof log_bytes, file);
-    failed = ferror(file);
-    if (failed)
-        fprintf(stderr, "%s: could not be read: %s\n", name, strerror(errno));
+    uint8_t *bytes;
+    if (file == NULL)
+        return fail(name, strerror(errno));
+    bytes = read_all(file, name, length);
     fclose(file); /* it was only read: nothing is lost if this fails */
-    return !failed;
+    return bytes;
 }
 
 /* Prints each answer, up to the end, and gives the status. */
-static int print_log(const char *name, size_t length)
+static int print_log(const char *name, const uint8_t *bytes, size_t length)
 {
     struct mellansko_answer answer;
     int loss, status = NO_DAMAGE;
     size_t place = 0;
     for (;;) {
-        switch (mellansko_next(log_bytes, length, place, sizeof buffer, buffer, sizeof buffer,
+        switch (mellansko_next(bytes, length, place, sizeof buffer, buffer, sizeof buffer,
                                &answer)) {
         case MELLANSKO_RECORD:
             printf("record %" PRIu64 " to %" PRIu64 ": %" PRIu64 " bytes\n", answer.record.start,
@@ -66,8 +93,8 @@ static int print_log(const char *name, size_t length)
             }
             printf("torn from %" PRIu64 " to %zu\n", answer.end.start, length);
             return IN_DOUBT;
-        default: /* MELLANSKO_NEXT_REFUSED: here only of a log that is too long */
-            fprintf(stderr, "%s: %s\n", name, mellansko_refusal_text(answer.refused.number));
+        default: /* MELLANSKO_NEXT_REFUSED: of no call that is made here */
+            fail(name, mellansko_refusal_text(answer.refused.number));
             return NOT_READ;
         }
         place = answer.place;
@@ -76,15 +103,18 @@ static int print_log(const char *name, size_t length)
 
 int main(int count, char **words)
 {
+    uint8_t *bytes;
     size_t length;
     int status;
     if (count != 2) {
         fprintf(stderr, "usage: read_file FILE\n");
         return NOT_READ;
     }
-    if (!read_file(words[1], &length))
+    bytes = read_file(words[1], &length);
+    if (bytes == NULL)
         return NOT_READ;
-    status = print_log(words[1], length);
+    status = print_log(words[1], bytes, length);
+    free(bytes);
     if (fflush(stdout) != 0 || ferror(stdout)) {
         fprintf(stderr, "could not be printed\n");
         return NOT_READ;

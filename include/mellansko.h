@@ -1,12 +1,12 @@
 /*
  * Mellansko: a writer and a reader of journals in the LevelDB log format, for C99 and C++.
  *
- * A log is bytes that the caller lends, in blocks of 32,768 from the first on. A record is 0 to
- * 262,144 bytes of the caller's. It is stored as one or more fragments, each a header of 7 bytes
- * and then data. None crosses a block's end; if fewer than 7 bytes are left before it, they are a
- * trailer, which holds nothing of a record and has to be zeros. A record's span is the range of its
- * fragments, headers included. docs/FORMAT.md has the rules, and numbers here, as 3.7, are that
- * page's.
+ * A log is up to 1,073,741,824 bytes that the caller lends, in blocks of 32,768 from the first on.
+ * A record is 0 to 4,194,304 bytes of the caller's. It is stored as one or more fragments, each a
+ * header of 7 bytes and then data. None crosses a block's end; if fewer than 7 bytes are left
+ * before it, they are a trailer, which holds nothing of a record and has to be zeros. A record's
+ * span is the range of its fragments, headers included. docs/FORMAT.md has the rules, and numbers
+ * here, as 3.7, are that page's.
  *
  * The mark is how many bytes of a log are used: mellansko_append writes a record there and answers
  * the new mark. A place is where mellansko_next reads: 0, and then what the last answer says. It
@@ -29,6 +29,23 @@
  * The calls allocate nothing, share no state, and keep nothing of what they are passed. They take
  * time in proportion to the bytes that they look at. They are for Linux on x86-64.
  *
+ * What has to be in memory, besides an answer:
+ *
+ * - For mellansko_next the log, and a buffer of as many bytes as the limit. No record has more
+ *   bytes than its log, so for a short log a limit and a buffer of its length will do.
+ * - For the reader that is fed in pieces a feed, a block, a buffer of as many bytes as the limit,
+ *   and a piece of any length: nothing else of the log, however long it is. examples/feed_stdin.c
+ *   reads so.
+ * - For mellansko_append the record, and a log with room for what is added. Nothing of what comes
+ *   before the mark is needed (3.9): a record for the end of a file can be appended in a scratch
+ *   log, at the file's length modulo 32,768. examples/append_file.c does so.
+ * - For mellansko_mend both logs, and a buffer as for mellansko_next.
+ *
+ * A buffer for any record has MELLANSKO_LONGEST_RECORD bytes, 4 MiB. That is no array for the
+ * stack, which often has 8 MiB in all, and in a thread less: make it static, or take it from
+ * malloc. Memory for a log is best taken from malloc, by the log's length: MELLANSKO_LONGEST_LOG
+ * bytes are 1 GiB, and a program with two static arrays of as many may not link.
+ *
  * What no reader of this format can always tell (8, 13.6): whether a log was cut exactly between
  * two records; whether a block was left out, is there twice, or was replaced by another sound one;
  * whether bytes with a right checksum are those that were written.
@@ -49,9 +66,13 @@
 #define MELLANSKO_VERSION_MINOR 1
 #define MELLANSKO_VERSION_PATCH 0
 
+/*
+ * The bytes of a block, and the most that a record and a log have. An int holds each of them and
+ * one more; it does not hold the longest log twice.
+ */
 #define MELLANSKO_BLOCK 32768
-#define MELLANSKO_LONGEST_RECORD 262144
-#define MELLANSKO_LONGEST_LOG 16777216
+#define MELLANSKO_LONGEST_RECORD 4194304
+#define MELLANSKO_LONGEST_LOG 1073741824
 
 /* For compilers that know the words: they warn of a result that is dropped, and of a NULL. */
 #if defined(__GNUC__)
@@ -472,12 +493,12 @@ static inline const char *mellansko_reason_text(uint64_t reason)
 static inline const char *mellansko_refusal_text(uint64_t number)
 {
     switch (number) {
-    case MELLANSKO_LOG_TOO_LONG: return "the log is longer than 16777216 bytes";
+    case MELLANSKO_LOG_TOO_LONG: return "the log is longer than 1073741824 bytes";
     case MELLANSKO_OUTSIDE: /* and MELLANSKO_UNFIT: whoever calls knows which it is */
         return "the mark or place is beyond the log's end, or the feed's numbers do not fit";
-    case MELLANSKO_RECORD_TOO_LONG: return "the record is longer than 262144 bytes";
+    case MELLANSKO_RECORD_TOO_LONG: return "the record is longer than 4194304 bytes";
     case MELLANSKO_NO_ROOM: return "the log has no room for what is to be written";
-    case MELLANSKO_LIMIT_TOO_HIGH: return "the limit is above 262144 bytes";
+    case MELLANSKO_LIMIT_TOO_HIGH: return "the limit is above 4194304 bytes";
     case MELLANSKO_BUFFER_TOO_SHORT: return "the buffer is shorter than the limit";
     case MELLANSKO_AFTER_END: return "the log's end was announced before the piece";
     default: return "a number that is no refusal's";

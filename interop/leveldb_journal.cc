@@ -24,7 +24,7 @@ class Dropped : public leveldb::log::Reader::Reporter {
 };
 
 void write(const std::string& input) {
-    // As long as a lent log may be.
+    // More than any of the tests writes.
     std::vector<char> array(16 << 20);
     Sink sink(&array);
     leveldb::log::Writer writer(&sink);

@@ -12,18 +12,20 @@ pub use line::text;
 pub use line::three;
 ghost use Prim.Native.Nat.{_<_, _≤_};
 use log_format::Next;
-use log_format::Record;
 
-// The arrays that a program has. Of the log and the buffer it lends a front part.
+// The arrays that a program has. Of the log and the buffer it lends a front part. They are on the stack, so they have what the runs
+// need and no more: a log that takes the longest record, and the record, are more than a stack of 8 MiB has.
 pub struct Length;
 
 impl Length {
-    pub const LOG: usize = 600_000;
+    // Eight blocks.
+    pub const LOG: usize = 262_144;
 
-    // Room for a record, and for a limit, that is one byte too long.
-    pub const RECORD: usize = Record::LONGEST + 1;
+    // The longest record of the example (§9.2).
+    pub const RECORD: usize = 97_270;
 
-    pub const BUFFER: usize = Record::LONGEST + 1;
+    // The limit that the examples are read with (§9.2).
+    pub const BUFFER: usize = 262_144;
 }
 
 pub type LogArray = [u8; Length::LOG];
@@ -89,6 +91,13 @@ pub fn append(
 {
     make_record(record, number, bytes);
     append_made(log, n, mark, record, bytes);
+}
+
+// Appends a record that is not in the array.
+pub fn append_bytes(log: &mut LogArray, n: usize, mark: usize, record: &[u8])
+    requires { do ⌜ n ≤ (← ⟦Length::LOG⟧) ⌝ }
+{
+    call::append(log, n, mark, record);
 }
 
 // Appends the record that is there.

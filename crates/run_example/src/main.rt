@@ -1,6 +1,5 @@
 // Writes what is read of the example of the log format's text: whole, cut at two places, and with a byte changed.
 ghost use Prim.Native.Nat.{_≤_};
-use log_format::Record;
 use report::BufferArray;
 use report::Length;
 use report::LogArray;
@@ -70,6 +69,6 @@ fn example(log: &mut LogArray, record: &mut RecordArray) {
 fn read(log: &LogArray, n: usize, buffer: &mut BufferArray)
     requires { do ⌜ n ≤ (← ⟦Length::LOG⟧) ⌝ }
 {
-    report::read(log, n, Record::LONGEST, buffer);
+    report::read(log, n, Length::BUFFER, buffer);
     report::sums(log, n, buffer);
 }

@@ -3,7 +3,6 @@
 ghost use Prim.Native.Nat.{_≤_, _<_};
 use by_hand::fragment;
 use by_hand::zeros;
-use log_format::Record;
 use log_layout::Fragment;
 use log_layout::Header;
 use report::BufferArray;
@@ -50,7 +49,7 @@ fn record_open(log: &mut LogArray, bytes: usize, record: &mut RecordArray, buffe
     fragment(log, 32_768, Fragment::MIDDLE, record, 2, 32_761 - bytes);
     zeros(log, 65_536 - bytes, bytes);
     fragment(log, 65_536, Fragment::LAST, record, 3, 100);
-    report::read(log, 65_643, Record::LONGEST, buffer);
+    report::read(log, 65_643, Length::BUFFER, buffer);
     cuts(log, bytes, buffer);
     each_byte_dirty(log, bytes, 65_643, buffer);
 }
@@ -59,10 +58,10 @@ fn record_open(log: &mut LogArray, bytes: usize, record: &mut RecordArray, buffe
 fn cuts(log: &LogArray, bytes: usize, buffer: &mut BufferArray)
     requires { do ⌜ bytes < (← ⟦Header::SIZE⟧) ⌝ }
 {
-    report::read(log, 32_768 - bytes, Record::LONGEST, buffer);
-    report::read(log, 32_767, Record::LONGEST, buffer);
-    report::read(log, 32_768, Record::LONGEST, buffer);
-    report::read(log, 65_535, Record::LONGEST, buffer);
+    report::read(log, 32_768 - bytes, Length::BUFFER, buffer);
+    report::read(log, 32_767, Length::BUFFER, buffer);
+    report::read(log, 32_768, Length::BUFFER, buffer);
+    report::read(log, 65_535, Length::BUFFER, buffer);
 }
 
 // A record up to the trailer, and one after it.
@@ -105,9 +104,9 @@ fn dirty(log: &mut LogArray, place: usize, n: usize, buffer: &mut BufferArray)
     requires { do ⌜ n ≤ (← ⟦Length::LOG⟧) ⌝ }
 {
     report::change(log, place, 1);
-    report::read(log, n, Record::LONGEST, buffer);
-    report::read(log, place + 1, Record::LONGEST, buffer);
-    report::read(log, place, Record::LONGEST, buffer);
+    report::read(log, n, Length::BUFFER, buffer);
+    report::read(log, place + 1, Length::BUFFER, buffer);
+    report::read(log, place, Length::BUFFER, buffer);
     report::change(log, place, 1);
 }
 

@@ -13,7 +13,8 @@ use std::fmt;
 /// is not too long, that is of up to [`LONGEST_LOG`](crate::LONGEST_LOG) bytes. These are those that
 /// [`Reading`](crate::Reading) gives of the whole log, in the same order, but that every record is
 /// [gathered](crate::Stored::Gathered), also one of a single fragment. A `Feed` holds one block and
-/// one record, however long the log is.
+/// one record, however long the log is: for the record it keeps a buffer of as many bytes as the
+/// limit, 4 MiB of them with the highest.
 ///
 /// The simplest way is [`push`](Feed::push), which takes all of a piece and gives what is then
 /// certain; at last [`end`](Feed::end) announces that no more comes. [`Incoming`](crate::Incoming)
@@ -67,9 +68,9 @@ impl Feed {
     /// A reader that skips records of more bytes than the limit, and keeps a buffer of no more.
     ///
     /// ```
-    /// use mellansko::{Condition, Feed};
+    /// use mellansko::{Condition, Feed, LONGEST_RECORD};
     ///
-    /// let refusal = Feed::with_limit(262_145).unwrap_err();
+    /// let refusal = Feed::with_limit(LONGEST_RECORD + 1).unwrap_err();
     /// assert_eq!(refusal.condition, Condition::LimitTooHigh);
     /// ```
     ///

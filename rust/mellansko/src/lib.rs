@@ -46,7 +46,8 @@
 //!
 //! [`Feed`] is for a log that is still coming. It is fed pieces of any length, and gives each
 //! answer as soon as no byte that may still come can change it. [`Incoming`] does so over a
-//! [`Read`](std::io::Read), a pipe say. Neither holds more than a block and a record of the log:
+//! [`Read`](std::io::Read), a pipe or a file say. Neither holds more than two blocks and a record of the
+//! log, so this is also the way to read one that need not be in memory:
 //!
 //! ```
 //! use mellansko::{Answer, Incoming};
@@ -101,7 +102,7 @@
 //!   of a trailer outside of these.
 //! - A log that is fed in pieces, wherever they are cut, has the answers of the whole log. Each is
 //!   given as early as can be: as soon as all logs have it that begin with what has come.
-//! - Mending a log, of any 16,777,216 bytes or fewer, makes one that is no longer than it. With the
+//! - Mending a log, of any 1,073,741,824 bytes or fewer, makes one that is no longer than it. With the
 //!   same limit that reads as the records that a reading of the bad one answers, with nothing
 //!   skipped and a clean end. A log that appends made from mark 0 on comes out as it was, if the
 //!   limit is not below any record.
@@ -110,6 +111,21 @@
 //! a record's bytes out of the slice that its answer names, and feeds what a source of bytes gives.
 //! Its only unsafe code is the calls, which need no more than a reference to a slice guarantees. It
 //! panics at an answer that the proved calls cannot give: then another archive is linked.
+//!
+//! # How much memory it takes
+//!
+//! A record has up to 4,194,304 bytes ([`LONGEST_RECORD`]), a log up to 1,073,741,824
+//! ([`LONGEST_LOG`]). The calls allocate nothing, and what stands around them allocates this:
+//!
+//! - A [`Reading`] takes a buffer of as many bytes as the limit, or as the log if that has fewer.
+//! - A [`Feed`] takes a buffer of as many bytes as the limit, and a block; [`Incoming`] one block more.
+//! - [`records`], and the readings as iterators, copy each record that lies in several fragments; a
+//!   feed, which has no log to point into, copies every one. `advance` lends the bytes instead.
+//!
+//! The buffers come as zeros from the system, which as a rule finds memory only for the bytes that
+//! a record has been put into. [`mend`] needs both logs. [`append`] needs nothing of what comes before
+//! the mark: what it adds depends on the record and on the mark's place in its block alone, so that a
+//! record for the end of a long file can be appended in a short log, at the same place of a block.
 //!
 //! # What no reader of this format can tell
 //!
@@ -171,10 +187,10 @@ pub use refusal::{Condition, Refusal};
 pub const BLOCK: usize = 32_768;
 
 /// The most bytes that a record has.
-pub const LONGEST_RECORD: usize = 262_144;
+pub const LONGEST_RECORD: usize = 4_194_304;
 
 /// The most bytes that a log has that is read, lent or fed.
-pub const LONGEST_LOG: usize = 16_777_216;
+pub const LONGEST_LOG: usize = 1_073_741_824;
 
 // The examples of the README are run as tests.
 #[cfg(doctest)]

@@ -1,7 +1,7 @@
 //! A log read from its first byte to its end.
 
 use crate::numbers::{self, Numbers, UNWRITTEN};
-use crate::{meaning, next, Next, Record, Refusal, Skip, Stored, Tail, LONGEST_RECORD};
+use crate::{meaning, next, Condition, Next, Record, Refusal, Skip, Stored, Tail, LONGEST_RECORD};
 use std::borrow::Cow;
 use std::fmt;
 use std::iter::FusedIterator;
@@ -34,6 +34,7 @@ use std::iter::FusedIterator;
 #[must_use = "nothing is read before an answer is asked for"]
 pub struct Reading<'log> {
     log: &'log [u8],
+    /// As it was given. The calls get the buffer's length.
     limit: usize,
     place: usize,
     buffer: Vec<u8>,
@@ -83,12 +84,13 @@ impl<'log> Reading<'log> {
         Reading::with_limit(log, LONGEST_RECORD)
     }
 
-    /// Reads a log and skips records of more bytes than the limit.
+    /// Reads a log and skips records of more bytes than the limit. The buffer for records that lie in
+    /// several fragments has as many bytes as the limit, or as the log if that has fewer.
     ///
     /// ```
-    /// use mellansko::{Condition, Reading};
+    /// use mellansko::{Condition, Reading, LONGEST_RECORD};
     ///
-    /// let refusal = Reading::with_limit(&[], 262_145).unwrap_err();
+    /// let refusal = Reading::with_limit(&[], LONGEST_RECORD + 1).unwrap_err();
     /// assert_eq!(refusal.condition, Condition::LimitTooHigh);
     /// ```
     ///
@@ -96,19 +98,22 @@ impl<'log> Reading<'log> {
     ///
     /// The first of these [conditions](crate::Condition) that holds: `LogTooLong`, `LimitTooHigh`.
     pub fn with_limit(log: &'log [u8], limit: usize) -> Result<Reading<'log>, Refusal> {
-        // A limit above the highest is refused whatever the buffer has.
-        let mut buffer = vec![0; limit.min(LONGEST_RECORD)];
         // What is refused at the log's end, with nothing to read, is refused at every place; what is
-        // not, at none.
-        if let Err(refusal) = next(log, log.len(), limit, &mut buffer) {
-            let given = 0;
-            return Err(Refusal { given, ..refusal });
+        // not, at none. That there is no buffer yet is judged last.
+        match next(log, log.len(), limit, &mut []) {
+            Err(refusal) if refusal.condition != Condition::BufferTooShort => {
+                let given = 0;
+                return Err(Refusal { given, ..refusal });
+            }
+            _ => {}
         }
         Ok(Reading {
             log,
             limit,
             place: 0,
-            buffer,
+            // No record has more bytes than its log: a limit of as many skips none that a higher one
+            // would not. Of a short log, the buffer of the highest would take longer than reading.
+            buffer: vec![0; limit.min(log.len())],
             answer: UNWRITTEN,
             ended: false,
         })
@@ -169,7 +174,7 @@ impl<'log> Reading<'log> {
             return None;
         }
         let (buffer, answer) = (&mut self.buffer, &mut self.answer);
-        let kind = numbers::next(self.log, self.place, self.limit, buffer, answer);
+        let kind = numbers::next(self.log, self.place, buffer.len(), buffer, answer);
         let next = meaning::next(kind, answer);
         let (next, place) = next.expect("no refusal, as at the beginning");
         self.place = place;

@@ -12,6 +12,11 @@ use std::fmt;
 ///
 /// To a log that is whole a record can be appended, at its length.
 ///
+/// A record of one fragment is borrowed from the log; any other is a copy. So of a log of long records
+/// this takes about as much memory again, and of one of very many short ones more than the log, for the
+/// list; and of one with very many ranges in doubt for the list of these. [`Reading::advance`] goes from
+/// answer to answer instead.
+///
 /// This is no proof that nothing is missing. No reader of this format can tell that a log was cut
 /// exactly between two records; that blocks were left out, are there twice, or were replaced by
 /// other sound ones; or that bytes were made with a right checksum
@@ -74,9 +79,13 @@ pub fn records_with_limit(log: &[u8], limit: usize) -> Result<Vec<Cow<'_, [u8]>>
     let (mut records, mut skips) = (Vec::new(), Vec::new());
     for answer in Reading::with_limit(log, limit)? {
         match answer {
-            Answer::Record { bytes, .. } => records.push(bytes),
-            Answer::Skip(skip) if skip.reason.is_loss() => skips.push(skip),
-            Answer::Skip(_) => {}
+            Answer::Record { bytes, .. } if skips.is_empty() => records.push(bytes),
+            Answer::Skip(skip) if skip.reason.is_loss() => {
+                // None is handed out any more, and they may be many bytes.
+                records = Vec::new();
+                skips.push(skip);
+            }
+            Answer::Record { .. } | Answer::Skip(_) => {}
             Answer::End(Tail::Clean) if skips.is_empty() => return Ok(records),
             Answer::End(tail) => return Err(NotWhole::InDoubt(Doubt { skips, tail })),
         }

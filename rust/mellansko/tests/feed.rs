@@ -274,6 +274,6 @@ fn with_limits_that_are_refused() {
         Feed::with_limit(LONGEST_RECORD).expect("no refusal")
     );
     assert_eq!(said, format!("{:?}", Feed::default()));
-    let shown = "Feed { place: 0, came: 0, limit: 262144, ended: false, .. }";
+    let shown = "Feed { place: 0, came: 0, limit: 4194304, ended: false, .. }";
     assert_eq!(said, shown);
 }

@@ -121,7 +121,7 @@ fn on_states_that_are_made_up() {
 
 #[test]
 fn on_every_condition() {
-    compare(edges::all, 500);
+    compare(edges::all, 800);
 }
 
 #[test]

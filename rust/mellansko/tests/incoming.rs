@@ -110,7 +110,7 @@ fn all(mut incoming: Incoming<Source>, lends: bool, answered: &Cell<usize>) -> (
 /// Once the bytes are too many, no end is answered, whatever comes or does not come after them.
 #[test]
 fn of_a_log_that_is_too_long() {
-    for more in [1, 2, 100_000, u64::MAX - LONGEST_LOG as u64] {
+    for more in [1, 100_000, u64::MAX - LONGEST_LOG as u64] {
         let source = io::repeat(0).take(LONGEST_LOG as u64 + more);
         let mut incoming = Incoming::with_limit(source, 0).expect("no refusal");
         // A block of zeros is a range in doubt, and all that a log may have are answered for.
@@ -232,7 +232,7 @@ fn with_errors_as_values() {
     );
     assert_eq!(
         refused.to_string(),
-        "the log was not read on: the limit is above 262144 bytes"
+        "the log was not read on: the limit is above 4194304 bytes"
     );
     let source = |error: &NotRead| error.source().expect("a source").to_string();
     assert_eq!(

@@ -127,9 +127,11 @@ fn with_a_limit() {
 /// Each condition by itself and with those that are judged after it: the first gives its number.
 #[test]
 fn on_every_condition() {
-    let mut log = two_records();
-    log.resize(LONGEST_LOG + 1, 0);
-    let (mut fresh, mut buffer) = (vec![0x5A; log.len()], vec![0xA5; LONGEST_RECORD + 1]);
+    let (two, mut log) = (two_records(), vec![0; LONGEST_LOG + 1]);
+    log[..two.len()].copy_from_slice(&two);
+    let (mut fresh, mut buffer) = (vec![0; log.len()], vec![0xA5; LONGEST_RECORD + 1]);
+    // No more than these are looked at; to fill all of it would take a gigabyte of memory.
+    fresh[..1_000].fill(0x5A);
     let mut numbers = BTreeSet::new();
     for length in [0, 38, LONGEST_LOG, LONGEST_LOG + 1] {
         for limit in [0, 12, 13, LONGEST_RECORD, LONGEST_RECORD + 1, usize::MAX] {

@@ -13,14 +13,14 @@ mod forge;
 mod gathered;
 #[path = "compare/hurt.rs"]
 mod hurt;
+#[path = "mend_compare/large.rs"]
+mod large;
 #[path = "mend_compare/lay.rs"]
 mod lay;
 #[path = "compare/lent.rs"]
 mod lent;
 #[path = "mend_compare/logs.rs"]
 mod logs;
-#[path = "mend_compare/longest.rs"]
-mod longest;
 // A part of it.
 #[allow(dead_code)]
 #[path = "compare/made.rs"]
@@ -136,10 +136,10 @@ fn on_slices_that_just_fit() {
 
 #[test]
 fn on_every_condition() {
-    compare(edges::all, 300);
+    compare(edges::all, 1_200);
 }
 
 #[test]
-fn on_the_longest_logs() {
-    compare(longest::all, 9);
+fn on_large_logs() {
+    compare(large::all, 9);
 }

@@ -63,10 +63,11 @@ fn on_the_samples() {
 #[test]
 fn on_records_above_the_limit() {
     let mut log = fragment(FIRST, &vec![1; BLOCK - HEADER]);
-    for _ in 0..7 {
-        log.extend(fragment(3, &vec![2; BLOCK - HEADER]));
+    let full = LONGEST_RECORD / (BLOCK - HEADER);
+    for _ in 1..full {
+        log.extend(fragment(MIDDLE, &vec![2; BLOCK - HEADER]));
     }
-    let rest = LONGEST_RECORD - 8 * (BLOCK - HEADER);
+    let rest = LONGEST_RECORD - full * (BLOCK - HEADER);
     for (more, whole) in [(0, true), (1, false)] {
         let log = [&log[..], &fragment(LAST, &vec![3; rest + more])].concat();
         assert_eq!(strict::of(records(&log)).is_ok(), whole);

@@ -147,7 +147,7 @@ fn hurt(random: &mut Random, log: &mut Vec<u8>) {
     }
 }
 
-/// Every line of the first 512 blocks, and then the refusal.
+/// Every line of all blocks that a log may have, and then the refusal.
 #[test]
 fn a_byte_above_the_limit() {
     let log = vec![0; LONGEST_LOG + 1];

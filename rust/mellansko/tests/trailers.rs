@@ -66,7 +66,8 @@ fn of_the_examples() {
 fn mended_they_are_counted_and_left_out() {
     let [clean, log] = logs();
     let mut fresh = vec![0x5A; log.len()];
-    let mended = mend(&log, &mut fresh, LONGEST_RECORD, &mut [0; LONGEST_RECORD]);
+    let mut buffer = vec![0; LONGEST_RECORD];
+    let mended = mend(&log, &mut fresh, LONGEST_RECORD, &mut buffer);
     let (length, skipped) = (106_311, 6);
     assert_eq!(mended, Ok(Mended { length, skipped }));
     assert!(fresh == clean);

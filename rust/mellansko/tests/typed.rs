@@ -29,10 +29,10 @@ fn on_logs_whole_cut_and_changed() {
         &[BLOCK - 13, 0, 3],
         &[BLOCK - 8, 40_000],
     ];
-    let limits = [0, 4, 5, 39_999, 40_000, LONGEST_RECORD];
+    let limits = [0, 4, 5, 39_999, 40_000, 100_000];
     for shape in shapes {
         let mut log = written(&mut random, shape);
-        for limit in limits {
+        for limit in limits.into_iter().chain([LONGEST_RECORD]) {
             read(&log, limit, &mut reasons);
             mend(&log, limit);
         }
@@ -196,7 +196,7 @@ fn on_every_condition() {
 }
 
 fn refused_appends(log: &mut [u8], mark: usize, refusals: &mut Vec<Refusal>) {
-    let record = [7; LONGEST_RECORD + 1];
+    let record = vec![7; LONGEST_RECORD + 1];
     for length in [0, LONGEST_RECORD, LONGEST_RECORD + 1] {
         let got = mellansko::append(log, mark, &record[..length]);
         let expected = log::append(log, mark, &record[..length]);
@@ -207,7 +207,7 @@ fn refused_appends(log: &mut [u8], mark: usize, refusals: &mut Vec<Refusal>) {
 }
 
 fn refused_readings(log: &[u8], place: usize, refusals: &mut Vec<Refusal>) {
-    let mut buffer = [0; LONGEST_RECORD];
+    let mut buffer = vec![0; LONGEST_RECORD];
     for limit in [0, 1, LONGEST_RECORD, LONGEST_RECORD + 1, usize::MAX] {
         let call = format!("limit {limit} at {place} of {}", log.len());
         for room in [0, 1, LONGEST_RECORD - 1, LONGEST_RECORD] {

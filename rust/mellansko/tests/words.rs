@@ -49,14 +49,14 @@ fn of_the_reasons() {
 #[test]
 fn of_the_conditions() {
     let words = [
-        (1, "the log is longer than 16777216 bytes"),
+        (1, "the log is longer than 1073741824 bytes"),
         (2, "mark or place 9 is beyond the log's end"),
-        (3, "the record is longer than 262144 bytes"),
+        (3, "the record is longer than 4194304 bytes"),
         (
             4,
             "the log has no room for what is to be written from mark 9 on",
         ),
-        (5, "the limit is above 262144 bytes"),
+        (5, "the limit is above 4194304 bytes"),
         (6, "the buffer is shorter than the limit"),
         (20, "the log's end was announced before the piece"),
     ];
@@ -103,7 +103,7 @@ fn of_what_is_not_whole() {
     );
     assert_eq!(said(&[&begun, &full, torn]), "the log is torn from 14 on");
     assert_eq!(said(&[torn]), "the log is torn from 0 on");
-    let refused = records_with_limit(&[], 262_145).unwrap_err();
-    let words = "the log was not read: the limit is above 262144 bytes";
+    let refused = records_with_limit(&[], 4_194_305).unwrap_err();
+    let words = "the log was not read: the limit is above 4194304 bytes";
     assert_eq!(refused.to_string(), words);
 }

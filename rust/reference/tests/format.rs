@@ -5,6 +5,8 @@
 mod dirty_trailer;
 #[path = "format/empty_start.rs"]
 mod empty_start;
+#[path = "format/two_figures.rs"]
+mod two_figures;
 
 use reference::feed::{self, Told};
 use reference::log::{append, next, Appended, Next, Stored, Tail, BLOCK};
@@ -255,24 +257,26 @@ fn the_picture() {
 #[test]
 fn the_longest_record() {
     let text = part("§9.5", "## 10.");
-    let mut log = vec![0; 600_000];
-    let Appended::Mark(mark) = append(&mut log, 0, &[7; 262_144]) else {
+    let mut log = vec![0; 5_000_000];
+    let record = vec![7; 4_194_305];
+    let Appended::Mark(mark) = append(&mut log, 0, &record[1..]) else {
         panic!("refused");
     };
+    assert_eq!(mark, 4_195_207);
+    let given = "In a log of 5,000,000 bytes a record of 4,194,304 bytes at mark 0";
+    let new = grouped(mark);
     says(
         &text,
-        &format!("is accepted, and the new mark is {}.", grouped(mark)),
+        &format!("{given} is accepted, and the new mark is {new}."),
     );
-    let Appended::Refused { number, given } = append(&mut log, mark, &[7; 262_145]) else {
+    let Appended::Refused { number, given } = append(&mut log, mark, &record) else {
         panic!("accepted");
     };
-    let mark = grouped(mark);
+    assert_eq!((number, given), (3, 4_195_207));
+    let longer = format!("One of 4,194,305 bytes at mark {new}");
     says(
         &text,
-        &format!(
-            "at mark {mark} is refused with number {number}, and gives back {}.",
-            grouped(given)
-        ),
+        &format!("{longer} is refused with number {number}, and gives back {new}."),
     );
 }
 

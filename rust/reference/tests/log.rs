@@ -100,19 +100,19 @@ fn the_example_with_byte_40_000_changed() {
 
 #[test]
 fn the_longest_record_and_the_longest_log() {
-    let mut log = vec![0; LONGEST_LOG];
+    let mut log = vec![0; LONGEST_LOG + 1];
+    let longest = &mut log[..LONGEST_LOG];
     let record = vec![0x11; LONGEST_RECORD + 1];
-    assert_eq!(append(&mut log, 0, &record), refused(3));
+    assert_eq!(append(longest, 0, &record), refused(3));
     assert!(matches!(
-        append(&mut log, 0, &record[1..]),
+        append(longest, 0, &record[1..]),
         Appended::Mark(_)
     ));
     let mut buffer = [0; 100];
     assert_eq!(
-        next(&log, LONGEST_LOG, 100, &mut buffer),
+        next(longest, LONGEST_LOG, 100, &mut buffer),
         Next::End(Tail::Clean)
     );
-    log.push(0);
     assert_eq!(append(&mut log, 0, &[]), refused(1));
     let (number, given) = (1, 0);
     assert_eq!(

@@ -1,7 +1,7 @@
 //! examples/feed_stdin.c, held to the reference, over files and over a pipe that pauses.
 
+use crate::files::{longest, printed, reading, run, said, set_length};
 use crate::files::{of_an_early_writer, with_a_dirty_trailer, DIRTY, EARLY};
-use crate::files::{printed, reading, run, said, set_length};
 use crate::folder::{root, Folder, C, CLANG, SANITIZED};
 use crate::refusal_text;
 use reference::log::{fragment, BLOCK, FIRST, FULL, LAST, LONGEST_LOG};
@@ -124,27 +124,11 @@ fn started(program: &Path) -> (ChildStdin, Receiver<String>) {
 #[test]
 fn what_can_not_be_read_is_no_whole_journal() {
     let folder = Folder::new("unfed");
-    let long = folder.file("long", "");
-    let with = |program: &Path, input: &Path| -> Output {
-        let input = File::open(input).expect("a file");
-        let mut command = Command::new(program);
-        command.stdin(input).output().expect("the program")
-    };
     for way in folder.there(&[C, SANITIZED]) {
         let program = folder.program(way, &root().join("examples/feed_stdin.c"));
-        let ran = with(&program, &folder.0);
+        let ran = fed(&program, &folder.0);
         assert_eq!(printed(&ran), (String::new(), 2));
         assert!(said(&ran).contains("Is a directory"), "{}", said(&ran));
-        set_length(&long, LONGEST_LOG);
-        let whole = with(&program, &long);
-        assert_eq!(printed(&whole), reading(&vec![0; LONGEST_LOG]));
-        // With a byte more no end is printed, and all that came before it is.
-        set_length(&long, LONGEST_LOG + 1);
-        let ran = with(&program, &long);
-        let (lines, _) = printed(&whole);
-        let (before, _) = lines.split_once("clean end").expect("a clean end");
-        assert_eq!(printed(&ran), (before.to_string(), 2));
-        assert!(said(&ran).contains(&refusal_text(1)), "{}", said(&ran));
         // What can't be printed was not said.
         if let Ok(full) = File::options().write(true).open("/dev/full") {
             let mut command = Command::new(&program);
@@ -153,4 +137,29 @@ fn what_can_not_be_read_is_no_whole_journal() {
             assert_eq!(status.code(), Some(2));
         }
     }
+}
+
+/// To its last byte. With a byte more no end is printed, and all that came before it is.
+#[test]
+fn a_log_of_the_greatest_length_is_read() {
+    let folder = Folder::new("longest-fed");
+    let (file, log) = longest(&folder);
+    for way in folder.there(&[C]) {
+        let program = folder.program(way, &root().join("examples/feed_stdin.c"));
+        let (lines, status) = reading(&log);
+        let ran = fed(&program, &file);
+        assert!(printed(&ran) == (lines.clone(), status), "{}", said(&ran));
+        set_length(&file, LONGEST_LOG + 1);
+        let ran = fed(&program, &file);
+        let (before, _) = lines.split_once("clean end").expect("a clean end");
+        assert!(printed(&ran) == (before.into(), 2), "{}", said(&ran));
+        assert!(said(&ran).contains(&refusal_text(1)), "{}", said(&ran));
+    }
+}
+
+/// What a program makes of a file on its standard input.
+fn fed(program: &Path, input: &Path) -> Output {
+    let input = File::open(input).expect("a file");
+    let mut command = Command::new(program);
+    command.stdin(input).output().expect("the program")
 }

@@ -2,11 +2,10 @@
 
 use crate::folder::{left_out, root, Folder, Way, C, CLANG, SANITIZED};
 use crate::{reason_text, refusal_text};
-use reference::log::{
-    append, fragment, next, Appended, Next, Tail, FIRST, LAST, LONGEST_LOG, LONGEST_RECORD,
-};
+use reference::log::{append, fragment, next, Appended, Next, Tail};
+use reference::log::{BLOCK, FIRST, FULL, HEADER, LAST, LONGEST_LOG, LONGEST_RECORD};
 use std::fs::{self, File};
-use std::io::Write as _;
+use std::io::{Seek as _, SeekFrom, Write as _};
 use std::path::{Path, PathBuf};
 use std::process::{Command, Output, Stdio};
 
@@ -85,32 +84,77 @@ fn a_dirty_trailer_is_in_doubt() {
 fn a_file_that_can_not_be_read_is_no_whole_journal() {
     let folder = Folder::new("unread");
     let long = folder.file("long", "");
+    set_length(&long, LONGEST_LOG + 1);
     for way in folder.there(&[C, SANITIZED]) {
         let program = folder.program(way, &root().join("examples/read_file.c"));
         let fails = |file: &Path, says: &str| {
-            let ran = run(Command::new(&program).arg(file), b"");
+            let ran = run(Command::new(&program).arg(file), b"some bytes");
             assert_eq!(printed(&ran), (String::new(), 2));
             assert!(said(&ran).contains(says), "{}", said(&ran));
         };
         fails(&folder.0.join("none"), "No such file");
-        fails(&folder.0, "Is a directory");
-        set_length(&long, LONGEST_LOG + 1);
+        fails(&folder.0, "not a plain file");
+        fails(Path::new("/dev/stdin"), "not a plain file");
         fails(&long, &refusal_text(1));
-        set_length(&long, LONGEST_LOG);
-        let ran = run(Command::new(&program).arg(&long), b"");
-        assert_eq!(ran.status.code(), Some(1));
+        // A file that has bytes, and says that it has none.
+        fails(Path::new("/proc/self/status"), "differ");
         assert_eq!(run(&mut Command::new(&program), b"").status.code(), Some(2));
         // What can't be printed was not said.
         if let Ok(full) = File::options().write(true).open("/dev/full") {
             let mut command = Command::new(&program);
-            let status = command
-                .arg(&long)
-                .stdout(full)
-                .stderr(Stdio::null())
-                .status();
+            let command = command.arg(root().join("samples/damaged.log"));
+            let status = command.stdout(full).stderr(Stdio::null()).status();
             assert_eq!(status.expect("the program").code(), Some(2));
         }
     }
+}
+
+/// To its last byte. With too little memory for it that is said; but of one that is a byte longer it
+/// is said that it is too long, for which no memory is taken.
+#[test]
+fn a_file_of_the_greatest_length_is_read() {
+    let folder = Folder::new("longest");
+    let (file, log) = longest(&folder);
+    for way in folder.there(&[C]) {
+        let program = folder.program(way, &root().join("examples/read_file.c"));
+        set_length(&file, LONGEST_LOG);
+        let ran = run(Command::new(&program).arg(&file), b"");
+        assert!(printed(&ran) == reading(&log), "{}", said(&ran));
+        for (length, says) in [
+            (LONGEST_LOG, NO_MEMORY),
+            (LONGEST_LOG + 1, &refusal_text(1)),
+        ] {
+            set_length(&file, length);
+            let ran = run(&mut with_memory(512, &program, &[&file]), b"");
+            assert_eq!(printed(&ran), (String::new(), 2));
+            assert!(said(&ran).contains(says), "{}", said(&ran));
+        }
+    }
+}
+
+/// A file of the greatest length, and its bytes: zeros, of which neither takes up room, and in the
+/// last block a record that ends with the log.
+pub fn longest(folder: &Folder) -> (PathBuf, Vec<u8>) {
+    let (file, mut log) = (folder.file("longest", ""), vec![0; LONGEST_LOG]);
+    let last = fragment(FULL, &some_bytes(BLOCK - HEADER, 3));
+    let start = LONGEST_LOG - BLOCK;
+    log[start..].copy_from_slice(&last);
+    let mut written = File::options().write(true).open(&file).expect("the file");
+    let place = written.seek(SeekFrom::Start(start as u64));
+    assert_eq!(place.expect("a place"), start as u64);
+    written.write_all(&last).expect("the last block");
+    (file, log)
+}
+
+/// What is said where there is not enough of it.
+pub const NO_MEMORY: &str = "Cannot allocate memory";
+
+/// A program that has so many MiB of memory at most.
+pub fn with_memory(most: usize, program: &Path, words: &[&Path]) -> Command {
+    let mut shell = Command::new("sh");
+    let limited = format!("ulimit -v {} && exec \"$0\" \"$@\"", most << 10);
+    shell.args(["-c", &limited]).arg(program).args(words);
+    shell
 }
 
 /// At every place around a block's end, and of a file that has bytes of any kind: they are not read.
@@ -122,7 +166,9 @@ fn a_record_is_appended_as_the_reference_appends_it() {
         let program = folder.program(way, &root().join("examples/append_file.c"));
         let others = [0, 1, 7, 20, 65_529, 65_535, 65_536, 100_000, 1_000_000];
         for length in others.into_iter().chain(32_760..=32_775) {
-            for record in [0, 1, 32_761, 65_523, LONGEST_RECORD] {
+            // The longest at two marks: where no trailer has to be filled up, and where one has.
+            let longest = [0, 32_762].contains(&length).then_some(LONGEST_RECORD);
+            for record in [0, 1, 32_761, 65_523, 262_144].into_iter().chain(longest) {
                 let record = some_bytes(record, 7);
                 let old = some_bytes(length, 31);
                 fs::write(&file, &old).expect("a file");
@@ -146,7 +192,7 @@ fn what_is_appended_reads_back() {
             .map(|name| folder.program(way, &root().join(format!("examples/{name}.c"))));
         let mut expected = Vec::new();
         fs::write(&file, "").expect("the file");
-        for length in [0, 5, 32_000, 737, 12, 0, 262_144, 1, 40_000, 100] {
+        for length in [0, 5, 32_000, 737, 12, 0, LONGEST_RECORD, 1, 40_000, 100] {
             let record = some_bytes(length, 3);
             run(Command::new(&append).arg(&file), &record);
             let ran = run(Command::new(&append).arg(&file).arg("LW10-1 0.9137"), b"no");

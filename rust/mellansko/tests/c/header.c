@@ -1,25 +1,22 @@
-/* What include/mellansko.h says, held to what the calls do. Prints the lines that do not hold. */
-#include <stdio.h>
-#include <string.h>
+/* What include/mellansko.h says, held to what the calls do; its two figures are in figures.c. */
+#include "held.h"
 
-#include "mellansko.h"
-
-#define HEADER 7
-#define TOO_LONG_LOG (MELLANSKO_LONGEST_LOG + 1)
-#define TOO_LONG_RECORD (MELLANSKO_LONGEST_RECORD + 1)
+/* Room for a record that lies in several blocks. All of it is compared at every call. */
+#define LOG 100000
+#define RECORD 40000
 
 /* What is lent, and as it was before the call. Each slice starts at an odd place: it may. */
 struct lent {
     uint8_t before_log;
-    uint8_t log[TOO_LONG_LOG];
+    uint8_t log[LOG];
     uint8_t before_record;
-    uint8_t record[TOO_LONG_RECORD];
+    uint8_t record[RECORD];
     uint8_t before_buffer;
-    uint8_t buffer[TOO_LONG_RECORD];
+    uint8_t buffer[RECORD];
     uint8_t before_block;
     uint8_t block[MELLANSKO_BLOCK];
     uint8_t before_fresh;
-    uint8_t fresh[TOO_LONG_LOG];
+    uint8_t fresh[LOG];
 };
 static struct lent now, before;
 
@@ -29,45 +26,18 @@ static struct {
     uint64_t after[8];
 } lent_feed;
 
-/* An answer and more words after it, all ones before a call. */
-static struct {
-    struct mellansko_answer answer;
-    uint64_t after[8];
-} lent_answer;
-
-static int failures;
-
-static void holds(int line, const char *what, int claim)
-{
-    if (!claim) {
-        printf("line %d: %s\n", line, what);
-        failures++;
-    }
-}
-
 #define CHECK(claim) holds(__LINE__, #claim, claim)
 
 static void prepare(void)
 {
     memcpy(&before, &now, sizeof now);
-    memset(&lent_answer, 0xFF, sizeof lent_answer);
-}
-
-/* The kind is returned, all ten words are written, and no other. */
-static void answered(int line, uint64_t kind, const uint64_t *expected)
-{
-    size_t i;
-    holds(line, "the kind", kind == expected[0]);
-    for (i = 0; i < MELLANSKO_ANSWER; i++)
-        holds(line, "answer", lent_answer.answer.words[i] == expected[i]);
-    for (i = 0; i < sizeof lent_answer.after / sizeof *lent_answer.after; i++)
-        holds(line, "what lies after the answer", lent_answer.after[i] == UINT64_MAX);
+    unwritten();
 }
 
 /* Nothing that is lent has changed but these bytes, which are put back to see it. */
 static void changed_only(int line, uint8_t *bytes, size_t length)
 {
-    static uint8_t changed[MELLANSKO_LONGEST_RECORD + MELLANSKO_BLOCK];
+    static uint8_t changed[LOG];
     const uint8_t *old = (uint8_t *)&before + (bytes - (uint8_t *)&now);
     memcpy(changed, bytes, length);
     memcpy(bytes, old, length);
@@ -173,8 +143,6 @@ static void mend(int line, size_t bad_len, size_t fresh_len, size_t limit, size_
     changed_only(line, now.buffer, gathered);
 }
 
-/* The words that are not named are 0. */
-#define ANSWER(...) (const uint64_t[MELLANSKO_ANSWER]){__VA_ARGS__}
 #define APPEND(log_len, mark, length, ...) \
     append(__LINE__, log_len, mark, length, ANSWER(__VA_ARGS__))
 #define NEXT(log_len, place, limit, buffer_len, ...) \
@@ -264,41 +232,30 @@ static void names(void)
 
 static void sizes(void)
 {
-    const size_t all = MELLANSKO_LONGEST_RECORD;
-    const size_t end = MELLANSKO_LONGEST_RECORD + 9 * HEADER;
-    APPEND(MELLANSKO_LONGEST_LOG, 0, all, MELLANSKO_ACCEPTED, end);
-    NEXT(MELLANSKO_LONGEST_LOG, 0, all, all, MELLANSKO_RECORD, 0, end, all, MELLANSKO_GATHERED, 0,
-         end);
-    APPEND(100000, 0, MELLANSKO_BLOCK - HEADER, MELLANSKO_ACCEPTED, MELLANSKO_BLOCK);
-    APPEND(100000, 0, MELLANSKO_BLOCK - HEADER + 1, MELLANSKO_ACCEPTED,
-           MELLANSKO_BLOCK + HEADER + 1);
-    APPEND(100000, MELLANSKO_BLOCK - 6, 3, MELLANSKO_ACCEPTED, MELLANSKO_BLOCK + HEADER + 3);
+    const size_t all = RECORD, end = RECORD + 2 * HEADER;
+    APPEND(LOG, 0, all, MELLANSKO_ACCEPTED, end);
+    NEXT(LOG, 0, all, all, MELLANSKO_RECORD, 0, end, all, MELLANSKO_GATHERED, 0, end);
+    APPEND(LOG, 0, MELLANSKO_BLOCK - HEADER, MELLANSKO_ACCEPTED, MELLANSKO_BLOCK);
+    APPEND(LOG, 0, MELLANSKO_BLOCK - HEADER + 1, MELLANSKO_ACCEPTED, MELLANSKO_BLOCK + HEADER + 1);
+    APPEND(LOG, MELLANSKO_BLOCK - 6, 3, MELLANSKO_ACCEPTED, MELLANSKO_BLOCK + HEADER + 3);
 }
 
 /* Each condition alone or with all of a higher number, and its neighbour that is accepted. */
 static void refused_appends(void)
 {
-    const size_t log = MELLANSKO_LONGEST_LOG, record = MELLANSKO_LONGEST_RECORD;
-    APPEND(log + 1, log + 2, record + 1, MELLANSKO_APPEND_REFUSED, MELLANSKO_LOG_TOO_LONG, log + 2);
-    APPEND(log + 1, 0, 0, MELLANSKO_APPEND_REFUSED, MELLANSKO_LOG_TOO_LONG, 0);
-    APPEND(log, log + 1, record + 1, MELLANSKO_APPEND_REFUSED, MELLANSKO_OUTSIDE, log + 1);
-    APPEND(log, log, record + 1, MELLANSKO_APPEND_REFUSED, MELLANSKO_RECORD_TOO_LONG, log);
-    APPEND(log, 5, record + 1, MELLANSKO_APPEND_REFUSED, MELLANSKO_RECORD_TOO_LONG, 5);
-    APPEND(log, log, 0, MELLANSKO_APPEND_REFUSED, MELLANSKO_NO_ROOM, log);
+    APPEND(LOG, LOG + 1, 0, MELLANSKO_APPEND_REFUSED, MELLANSKO_OUTSIDE, LOG + 1);
+    APPEND(LOG, LOG, 0, MELLANSKO_APPEND_REFUSED, MELLANSKO_NO_ROOM, LOG);
     APPEND(20, 10, 4, MELLANSKO_APPEND_REFUSED, MELLANSKO_NO_ROOM, 10);
     APPEND(20, 10, 3, MELLANSKO_ACCEPTED, 20);
 }
 
 static void refused_readings(void)
 {
-    const size_t log = MELLANSKO_LONGEST_LOG, limit = MELLANSKO_LONGEST_RECORD;
-    NEXT(log + 1, log + 2, limit + 1, 0, MELLANSKO_NEXT_REFUSED, MELLANSKO_LOG_TOO_LONG, log + 2);
-    NEXT(log + 1, 0, 0, 0, MELLANSKO_NEXT_REFUSED, MELLANSKO_LOG_TOO_LONG, 0);
-    NEXT(log, log + 1, limit + 1, 0, MELLANSKO_NEXT_REFUSED, MELLANSKO_OUTSIDE, log + 1);
-    NEXT(log, log, limit + 1, limit, MELLANSKO_NEXT_REFUSED, MELLANSKO_LIMIT_TOO_HIGH, log);
-    NEXT(20, 5, limit + 1, limit + 1, MELLANSKO_NEXT_REFUSED, MELLANSKO_LIMIT_TOO_HIGH, 5);
-    NEXT(20, 5, limit, limit - 1, MELLANSKO_NEXT_REFUSED, MELLANSKO_BUFFER_TOO_SHORT, 5);
-    NEXT(log, log, limit, limit, MELLANSKO_END, MELLANSKO_CLEAN, 0, 0, 0, 0, log);
+    const size_t too_high = MELLANSKO_LONGEST_RECORD + 1;
+    NEXT(20, 21, too_high, 0, MELLANSKO_NEXT_REFUSED, MELLANSKO_OUTSIDE, 21);
+    NEXT(20, 20, too_high, 0, MELLANSKO_NEXT_REFUSED, MELLANSKO_LIMIT_TOO_HIGH, 20);
+    NEXT(20, 5, 9, 8, MELLANSKO_NEXT_REFUSED, MELLANSKO_BUFFER_TOO_SHORT, 5);
+    NEXT(20, 20, 9, 9, MELLANSKO_END, MELLANSKO_CLEAN, 0, 0, 0, 0, 20);
 }
 
 static void answers(void)
@@ -381,7 +338,7 @@ static void feed_names(void)
 /* A record of two fragments, a bad one, and the end of both the log and the block. */
 static void feeding(void)
 {
-    const size_t all = MELLANSKO_LONGEST_RECORD;
+    const size_t all = RECORD;
     put(10, 2, 3);
     put(20, 4, 2);
     memset(now.log + 29, 0, 20);
@@ -466,19 +423,17 @@ static void fed_to_the_end(void)
 /* Each condition alone or with all of a higher number. What is refused changes no word. */
 static void refused_feeds(void)
 {
-    const size_t log = MELLANSKO_LONGEST_LOG, limit = MELLANSKO_LONGEST_RECORD;
-    BEGIN(limit + 1, MELLANSKO_BEGIN_REFUSED, MELLANSKO_LIMIT_TOO_HIGH);
+    const size_t limit = RECORD;
+    BEGIN(MELLANSKO_LONGEST_RECORD + 1, MELLANSKO_BEGIN_REFUSED, MELLANSKO_LIMIT_TOO_HIGH);
     CHECK(lent_feed.feed.limit == UINT64_MAX && lent_feed.feed.later[1] == UINT64_MAX);
     BEGIN(limit, MELLANSKO_BEGUN);
     TAKE(0, 9, MELLANSKO_TAKEN, 9);
     mellansko_feed_end(&lent_feed.feed);
-    TAKE(0, log - 8, MELLANSKO_TAKE_REFUSED, MELLANSKO_LOG_TOO_LONG);
-    TAKE(0, log - 9, MELLANSKO_TAKE_REFUSED, MELLANSKO_AFTER_END);
+    TAKE(0, 9, MELLANSKO_TAKE_REFUSED, MELLANSKO_AFTER_END);
     TAKE(0, 0, MELLANSKO_TAKE_REFUSED, MELLANSKO_AFTER_END);
     FEED_NEXT(limit - 1, 0, 0, MELLANSKO_NEXT_REFUSED, MELLANSKO_BUFFER_TOO_SHORT);
     FEED(limit, 0, 9, 1);
     lent_feed.feed.opened = 2;
-    TAKE(0, log - 8, MELLANSKO_TAKE_REFUSED, MELLANSKO_LOG_TOO_LONG);
     TAKE(0, 0, MELLANSKO_TAKE_REFUSED, MELLANSKO_UNFIT);
     FEED_NEXT(limit - 1, 0, 0, MELLANSKO_NEXT_REFUSED, MELLANSKO_UNFIT);
     lent_feed.feed.over = 0;
@@ -512,12 +467,9 @@ static void mending(void)
 /* Each condition alone or with all that are judged after it, and its neighbour that is mended. */
 static void refused_mendings(void)
 {
-    const size_t log = MELLANSKO_LONGEST_LOG, limit = MELLANSKO_LONGEST_RECORD;
-    MEND_REFUSED(log + 1, 0, limit + 1, 0, MELLANSKO_LOG_TOO_LONG);
-    MEND_REFUSED(54, log + 1, limit + 1, 0, MELLANSKO_LOG_TOO_LONG);
-    MEND_REFUSED(54, log + 1, 9, 9, MELLANSKO_LOG_TOO_LONG);
-    MEND_REFUSED(54, 0, limit + 1, 0, MELLANSKO_LIMIT_TOO_HIGH);
-    MEND_REFUSED(54, 54, limit + 1, limit + 1, MELLANSKO_LIMIT_TOO_HIGH);
+    const size_t too_high = MELLANSKO_LONGEST_RECORD + 1;
+    MEND_REFUSED(54, 0, too_high, 0, MELLANSKO_LIMIT_TOO_HIGH);
+    MEND_REFUSED(54, 54, too_high, 0, MELLANSKO_LIMIT_TOO_HIGH);
     MEND_REFUSED(54, 0, 9, 8, MELLANSKO_BUFFER_TOO_SHORT);
     MEND_REFUSED(54, 54, 9, 8, MELLANSKO_BUFFER_TOO_SHORT);
     memset(now.buffer, 0xA5, 20);
@@ -525,8 +477,7 @@ static void refused_mendings(void)
     MEND_REFUSED(54, 0, 9, 9, MELLANSKO_NO_ROOM);
     MEND(54, 22, 9, 9, now.log + 1000, MELLANSKO_MENDED, 22, 8);
     memset(now.log, 0, sizeof now.log);
-    MEND_REFUSED(log + 1, log, limit, limit, MELLANSKO_LOG_TOO_LONG);
-    MEND(log, log, limit, limit, now.log, MELLANSKO_MENDED, 0, log);
+    MEND(LOG, LOG, 9, 9, now.log, MELLANSKO_MENDED, 0, LOG);
 }
 
 int main(void)

@@ -15,6 +15,16 @@ fn it_says_what_the_calls_do() {
     }
 }
 
+/// So many bytes are accepted, and not one more.
+#[test]
+fn its_figures_are_those_of_the_calls() {
+    let folder = Folder::new("figures");
+    let source = root().join("rust/mellansko/tests/c/figures.c");
+    for way in folder.there(&[C, CLANG, SANITIZED]) {
+        assert_eq!(folder.run(way, &source), "", "{way:?}");
+    }
+}
+
 /// The lines that it shows are among those that the test above runs.
 #[test]
 fn its_example_of_a_checksum_is_run() {

@@ -1,7 +1,7 @@
 //! examples/mend_file.c, held to the reference.
 
-use crate::files::{appended, of_an_early_writer, printed, reading};
-use crate::files::{run, said, set_length, some_bytes, with_a_dirty_trailer};
+use crate::files::{appended, longest, of_an_early_writer, printed, reading, run, said};
+use crate::files::{set_length, some_bytes, with_a_dirty_trailer, with_memory, NO_MEMORY};
 use crate::folder::{left_out, root, Folder, Way, C, CLANG, SANITIZED};
 use crate::mended::mended;
 use crate::refusal_text;
@@ -90,28 +90,56 @@ fn a_dirty_trailer_is_counted() {
     }
 }
 
-/// One in which nothing can be read, and one that is whole.
+/// To its last byte, where a record ends.
 #[test]
-fn the_longest_journals_are_mended() {
-    let folder = Folder::new("mend-long");
-    let (bad, new) = (folder.file("bad", ""), folder.0.join("new"));
-    let record = some_bytes(LONGEST_RECORD, 3);
-    let mut whole = Vec::new();
-    while whole.len() + LONGEST_RECORD + 9 * 7 <= LONGEST_LOG {
-        whole = appended(whole, &record);
+fn a_journal_of_the_greatest_length_is_mended() {
+    let folder = Folder::new("mend-longest");
+    let ((bad, log), new) = (longest(&folder), folder.0.join("new"));
+    for way in folder.there(&[C]) {
+        let ran = mend(&program(&folder, way), &bad, &new);
+        let says = lines(&bad, &new, BLOCK, LONGEST_LOG - BLOCK);
+        assert_eq!(printed(&ran), (says, 0), "{}", said(&ran));
+        assert!(fs::read(&new).expect("the new file") == log[LONGEST_LOG - BLOCK..]);
+        fs::remove_file(&new).expect("the new file");
     }
+}
+
+/// With room for neither journal, and for one of them. Of one that is too long it is said that it is,
+/// for which no memory is taken.
+#[test]
+fn with_too_little_memory_nothing_is_mended() {
+    let folder = Folder::new("mend-memory");
+    let (bad, new) = (folder.file("bad", ""), folder.0.join("new"));
+    let too_long = refusal_text(1);
     for way in folder.there(&[C]) {
         let program = program(&folder, way);
-        for (log, length, skipped) in [
-            (vec![0; LONGEST_LOG], 0, LONGEST_LOG),
-            (whole.clone(), whole.len(), 0),
+        for (length, memory, says) in [
+            (LONGEST_LOG, 512, NO_MEMORY),
+            (LONGEST_LOG, 1_536, NO_MEMORY),
+            (LONGEST_LOG + 1, 512, &too_long),
         ] {
-            fs::write(&bad, &log).expect("a file");
-            let ran = mend(&program, &bad, &new);
-            assert_eq!(printed(&ran), (lines(&bad, &new, length, skipped), 0));
-            assert!(fs::read(&new).expect("the new file") == log[..length]);
-            fs::remove_file(&new).expect("the new file");
+            set_length(&bad, length);
+            let ran = run(&mut with_memory(memory, &program, &[&bad, &new]), b"");
+            assert_eq!(printed(&ran), (String::new(), 2), "{memory} MiB");
+            assert!(said(&ran).contains(says), "{}", said(&ran));
+            assert!(!new.exists());
         }
+    }
+}
+
+#[test]
+fn the_longest_records_are_mended() {
+    let folder = Folder::new("mend-long");
+    let record = some_bytes(LONGEST_RECORD, 3);
+    let log = [1, 2, 3]
+        .iter()
+        .fold(Vec::new(), |log, _| appended(log, &record));
+    let (bad, new) = (folder.file("bad", &log), folder.0.join("new"));
+    for way in folder.there(&[C]) {
+        let ran = mend(&program(&folder, way), &bad, &new);
+        assert_eq!(printed(&ran), (lines(&bad, &new, log.len(), 0), 0));
+        assert!(fs::read(&new).expect("the new file") == log);
+        fs::remove_file(&new).expect("the new file");
     }
 }
 
@@ -134,7 +162,6 @@ fn what_can_not_be_mended_makes_no_file() {
             assert!(said(&ran).contains(&says), "{}", said(&ran));
         };
         fails(&none, &new, "No such file");
-        fails(&folder.0, &new, "Is a directory");
         fails(&long, &new, &refusal_text(1));
         assert!(!new.exists());
         for new in [&there, &bad, &folder.0, &folder.0.join("link")] {
@@ -150,6 +177,29 @@ fn what_can_not_be_mended_makes_no_file() {
             assert!(said(&ran).contains("usage"), "{}", said(&ran));
         }
         assert!(!new.exists());
+    }
+}
+
+/// A folder, a pipe, and a file that has bytes and says that it has none.
+#[test]
+fn what_has_no_length_of_its_own_is_not_mended() {
+    let folder = Folder::new("mend-no-length");
+    let new = folder.0.join("new");
+    for way in folder.there(&[C, SANITIZED]) {
+        let program = program(&folder, way);
+        for (bad, says) in [
+            (&folder.0, "it is not a plain file"),
+            (&PathBuf::from("/dev/stdin"), "it is not a plain file"),
+            (
+                &PathBuf::from("/proc/self/status"),
+                "its length and its bytes differ",
+            ),
+        ] {
+            let ran = mend(&program, bad, &new);
+            assert_eq!(printed(&ran), (String::new(), 2));
+            assert!(said(&ran).contains(says), "{}", said(&ran));
+            assert!(!new.exists());
+        }
     }
 }
 

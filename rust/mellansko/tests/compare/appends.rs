@@ -2,7 +2,7 @@
 
 use super::lent::Lent;
 use super::{make, Comparison};
-use reference::log::{Appended, Next, Tail, LONGEST_RECORD};
+use reference::log::{Appended, Next, Tail};
 
 pub fn all(c: &mut Comparison) {
     for _ in 0..300 {
@@ -65,6 +65,7 @@ fn comes_back(c: &mut Comparison, log: &Lent, records: &[Vec<u8>]) {
 }
 
 fn pick_limit(c: &mut Comparison, longest: usize) -> usize {
-    let any = longest + c.random.below(LONGEST_RECORD - longest + 1);
-    make::pick(&mut c.random, &[longest, any, LONGEST_RECORD])
+    let high = make::long_or_longest(&mut c.random).max(longest);
+    let any = longest + c.random.below(high - longest + 1);
+    make::pick(&mut c.random, &[longest, any, high])
 }

@@ -1,5 +1,8 @@
 //! A lent slice in two copies, one for the calls under test and one for the reference.
 
+// Each test program takes a part of it.
+#![allow(dead_code)]
+
 use crate::random::Random;
 use std::ops::Range;
 
@@ -22,6 +25,29 @@ impl Lent {
             expected: array,
             start,
             length: bytes.len(),
+        }
+    }
+
+    /// So many zeros, of which those take up memory only that are then written.
+    pub fn zeros(length: usize, random: &mut Random) -> Lent {
+        let start = 8 + random.below(8);
+        let mut lent = Lent {
+            tested: vec![0; start + length + 16],
+            expected: vec![0; start + length + 16],
+            start: 0,
+            length,
+        };
+        lent.put(0, &random.bytes(start));
+        lent.put(start + length, &random.bytes(16));
+        lent.start = start;
+        lent
+    }
+
+    /// Puts bytes at a place, into both copies.
+    pub fn put(&mut self, place: usize, bytes: &[u8]) {
+        let place = self.start + place;
+        for copy in [&mut self.tested, &mut self.expected] {
+            copy[place..place + bytes.len()].copy_from_slice(bytes);
         }
     }
 
@@ -55,6 +81,12 @@ impl Lent {
     pub fn expected_mut(&mut self) -> &mut [u8] {
         let range = self.range();
         &mut self.expected[range]
+    }
+
+    /// Both copies, to be lent at the same time.
+    pub fn both_mut(&mut self) -> (&mut [u8], &mut [u8]) {
+        let range = self.range();
+        (&mut self.tested[range.clone()], &mut self.expected[range])
     }
 
     /// Whether the copies are the same, with all that is around them.

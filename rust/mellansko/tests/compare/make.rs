@@ -3,6 +3,10 @@
 use crate::random::Random;
 use reference::log::{append, Appended, BLOCK, HEADER, LONGEST_RECORD};
 
+/// What counts as long here: a record of nine fragments. Most of what is random is no longer, since
+/// with the longest records there are it would take many times as long, and show nothing else.
+pub const LONG: usize = 8 * BLOCK;
+
 pub fn pick<T: Clone>(random: &mut Random, from: &[T]) -> T {
     from[random.below(from.len())].clone()
 }
@@ -14,7 +18,7 @@ pub fn any_length(random: &mut Random, bits: usize) -> usize {
 }
 
 /// The length of a record to be appended at a mark: none, of any scale, such that it ends near the
-/// end of a block, or near the longest.
+/// end of a block, or long.
 pub fn record_length(random: &mut Random, mark: usize, bits: usize) -> usize {
     let room = (BLOCK - mark % BLOCK).saturating_sub(HEADER);
     let blocks = random.below(3) * (BLOCK - HEADER);
@@ -23,7 +27,15 @@ pub fn record_length(random: &mut Random, mark: usize, bits: usize) -> usize {
         1..=9 => any_length(random, bits),
         10..=12 => (room + 10).saturating_sub(random.below(30)),
         13..=14 => (blocks + room + 10).saturating_sub(random.below(30)),
-        _ => LONGEST_RECORD + 4 - random.below(8),
+        _ => long_or_longest(random) + 4 - random.below(8),
+    }
+}
+
+/// Long; and now and then the longest there is.
+pub fn long_or_longest(random: &mut Random) -> usize {
+    match random.below(128) {
+        0 => LONGEST_RECORD,
+        _ => LONG,
     }
 }
 
@@ -51,18 +63,21 @@ fn small_log(random: &mut Random, length: usize) -> Vec<u8> {
 
 /// A log as the reference writes it: up to so many records, of mixed lengths.
 pub fn written_log(random: &mut Random, records: usize) -> Vec<u8> {
-    let mut log = vec![0; records * 300_000];
-    let mut mark = 0;
+    let mut log = Vec::new();
     for _ in 0..records {
+        let mark = log.len();
         let length = record_length(random, mark, 14).min(LONGEST_RECORD);
         let record = record(random, length);
-        mark = accepted(append(&mut log, mark, &record));
+        // Room for a trailer and for every header.
+        log.resize(mark + length + HEADER * (length / BLOCK + 4), 0);
+        let end = accepted(append(&mut log, mark, &record));
+        log.truncate(end);
     }
-    log.truncate(mark);
     log
 }
 
-fn accepted(answer: Appended) -> usize {
+/// The new mark of an append that there was room for.
+pub fn accepted(answer: Appended) -> usize {
     match answer {
         Appended::Mark(mark) => mark,
         Appended::Refused { .. } => panic!("{answer:?} by the reference, with room enough"),

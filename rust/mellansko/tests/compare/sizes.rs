@@ -44,10 +44,10 @@ fn just_fits(c: &mut Comparison, log: &mut Lent, mark: usize, record: &[u8]) {
 }
 
 fn longest_records(c: &mut Comparison) {
-    let bytes = c.random.bytes(400_000);
+    let bytes = c.random.bytes(LONGEST_RECORD + 4 * BLOCK);
     let mut log = Lent::new(&bytes, &mut c.random);
     let record = c.random.bytes(LONGEST_RECORD + 1);
-    for mark in [0, 1, BLOCK - 7, BLOCK - 6, 3 * BLOCK + 5] {
+    for mark in [0, BLOCK - 7, BLOCK - 6, 2 * BLOCK + 5] {
         c.append(&mut log, mark, &record);
         just_fits(c, &mut log, mark, &record[1..]);
     }

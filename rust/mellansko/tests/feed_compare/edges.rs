@@ -35,7 +35,9 @@ fn limits(random: &mut Random) -> Made {
 /// from all that may have come before them.
 fn lengths(random: &mut Random) -> Made {
     let mut pair = Pair::begun(0, random);
-    let mut piece = Lent::new(&vec![7; LONGEST_LOG + 2], random);
+    let mut piece = Lent::zeros(LONGEST_LOG + 2, random);
+    // No more than these can be taken at once.
+    piece.put(0, &[7; BLOCK]);
     let last = LONGEST_LOG - BLOCK;
     let came = [
         0,
@@ -62,6 +64,8 @@ fn lengths(random: &mut Random) -> Made {
             }
         }
     }
+    // At each call this would take long.
+    assert!(piece.is_same(), "piece");
     pair.made
 }
 

@@ -2,10 +2,10 @@
 
 use crate::forge::{end_in_a_trailer, start_empty};
 use crate::made::Made;
-use crate::make::{any_length, headers, pick, written_log};
+use crate::make::{accepted, any_length, headers, pick, written_log, LONG};
 use crate::pair::{Pair, END};
 use crate::random::Random;
-use reference::log::{BLOCK, LONGEST_RECORD};
+use reference::log::{append, BLOCK, LONGEST_RECORD};
 
 pub fn all(random: &mut Random) -> Made {
     let mut made = Made::default();
@@ -16,13 +16,35 @@ pub fn all(random: &mut Random) -> Made {
             damage(&mut log, random);
         }
         let limit = match random.below(4) {
-            0 => LONGEST_RECORD,
-            1 => random.below(LONGEST_RECORD + 1),
+            0 => LONG,
+            1 => random.below(LONG + 1),
             _ => any_length(random, 15),
         };
         made += fed(&log, limit, random);
     }
+    made += longest(random);
     made += in_drops(random);
+    made
+}
+
+/// The longest record there is between two short ones: handed out, and over the limit by a byte.
+fn longest(random: &mut Random) -> Made {
+    let mut log = vec![0; LONGEST_RECORD + BLOCK];
+    let mut mark = 0;
+    for length in [5, LONGEST_RECORD, 6] {
+        let record = random.bytes(length);
+        mark = accepted(append(&mut log, mark, &record));
+    }
+    log.truncate(mark);
+    let mut made = Made::default();
+    for limit in [LONGEST_RECORD, LONGEST_RECORD - 1] {
+        let mut pair = Pair::begun(limit, random);
+        for piece in log.chunks(3 * BLOCK + 1) {
+            pair.feed(piece, random);
+        }
+        to_the_end(&mut pair, random);
+        made += pair.made;
+    }
     made
 }
 

@@ -51,9 +51,13 @@ impl Pair {
     }
 
     pub fn take(&mut self, piece: &[u8], random: &mut Random) -> [u64; 10] {
-        self.take_lent(&Lent::new(piece, random))
+        let piece = Lent::new(piece, random);
+        let answer = self.take_lent(&piece);
+        assert!(piece.is_same(), "piece, take of {} bytes", piece.len());
+        answer
     }
 
+    /// That the piece is still the same is for the caller to see.
     pub fn take_lent(&mut self, piece: &Lent) -> [u64; 10] {
         let before = self.state.get();
         let mut answer = unwritten();
@@ -62,7 +66,6 @@ impl Pair {
         let block = block_mut(self.block.expected_mut());
         let expected = take_words(self.state.expected(), block, piece.expected());
         let call = format!("take of {} bytes", piece.len());
-        assert!(piece.is_same(), "piece, {call}");
         self.same(&call, before, kind, answer, expected)
     }
 

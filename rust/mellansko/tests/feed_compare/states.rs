@@ -2,7 +2,7 @@
 //! any numbers.
 
 use crate::made::Made;
-use crate::make::{any_length, pick};
+use crate::make::{any_length, pick, LONG};
 use crate::pair::Pair;
 use crate::random::Random;
 use crate::words::Words;
@@ -11,8 +11,12 @@ use reference::log::{fragment, BLOCK, HEADER, LONGEST_LOG, LONGEST_RECORD};
 pub fn all(random: &mut Random) -> Made {
     let mut made = Made::default();
     for round in 0..200 {
-        // Most limits fit a buffer that is short to compare; some take the longest.
-        let most = if round % 20 == 0 { LONGEST_RECORD } else { 300 };
+        // Most limits fit a buffer that is short to compare; some take a long one.
+        let most = match round {
+            0 => LONGEST_RECORD,
+            _ if round % 20 == 0 => LONG,
+            _ => 300,
+        };
         let mut pair = Pair::new(most, random);
         for _ in 0..400 {
             let mut state = fitting(most, random);

@@ -1,13 +1,14 @@
-//! Every condition of a refusal at its edge and on both sides of it, alone and with others (§12.5).
+//! Every condition of a refusal at its edge and on both sides of it, alone and with others (§12.5);
+//! but for logs that are too long, which are in `longest.rs`.
 
 use crate::both::Both;
 use crate::lent::Lent;
-use reference::log::{fragment, FIRST, FULL, LAST, LONGEST_LOG, LONGEST_RECORD};
+use reference::log::{fragment, FIRST, FULL, LAST, LONGEST_RECORD};
 
 pub fn all(both: &mut Both) {
     let log = log();
     short_slices(both, &log);
-    long_slices(both, &log);
+    high_limits(both, &log);
 }
 
 /// A whole record, an orphan, a gathered record, and one that is whole again.
@@ -33,6 +34,11 @@ fn short_slices(both: &mut Both, log: &[u8]) {
             }
         }
     }
+}
+
+/// The same at the highest limit there is, and above it.
+fn high_limits(both: &mut Both, log: &[u8]) {
+    let bad = Lent::new(log, &mut both.random);
     let mut lent = both.lent(LONGEST_RECORD + 2);
     let high = [usize::MAX / 2, usize::MAX - 6, usize::MAX];
     for limit in around(LONGEST_RECORD).chain(high) {
@@ -45,30 +51,6 @@ fn short_slices(both: &mut Both, log: &[u8]) {
             for fresh in [0, 19, 20, 48, 49, log.len()] {
                 let mut fresh = both.lent(fresh);
                 both.mend(&bad, &mut fresh, limit, &mut lent);
-            }
-        }
-    }
-}
-
-/// Number 1 for either slice, and with all others.
-fn long_slices(both: &mut Both, log: &[u8]) {
-    let mut longest = vec![0; LONGEST_LOG + 1];
-    longest[..log.len()].copy_from_slice(log);
-    let mut bad = Lent::new(&longest, &mut both.random);
-    let mut fresh = both.lent(LONGEST_LOG + 1);
-    let mut buffer = both.lent(LONGEST_RECORD + 1);
-    for bad_length in [log.len(), LONGEST_LOG, LONGEST_LOG + 1] {
-        bad.cut(bad_length);
-        for fresh_length in [0, log.len(), LONGEST_LOG, LONGEST_LOG + 1] {
-            fresh.cut(fresh_length);
-            for (limit, buffer_length) in [
-                (13, 13),
-                (13, 12),
-                (LONGEST_RECORD + 1, LONGEST_RECORD + 1),
-                (LONGEST_RECORD + 1, 0),
-            ] {
-                buffer.cut(buffer_length);
-                both.mend(&bad, &mut fresh, limit, &mut buffer);
             }
         }
     }

@@ -3,12 +3,12 @@
 
 use crate::both::Both;
 use crate::hurt::hurt;
-use crate::make::{any_length, headers, pick, written_log};
+use crate::make::{any_length, headers, long_or_longest, pick, written_log};
 use crate::{mixed, starts, trailers};
 use reference::log::{BLOCK, LONGEST_RECORD};
 
 /// At a limit that no record is above; at one that is about as high as a fragment's data, so that
-/// some records are over it and others at it; and now and then at the lowest and at the highest.
+/// some records are over it and others at it; and now and then at the lowest and at a high one.
 fn at_limits(both: &mut Both, log: &[u8]) {
     both.examine(log, log.len().min(LONGEST_RECORD));
     let headers = headers(log);
@@ -20,7 +20,10 @@ fn at_limits(both: &mut Both, log: &[u8]) {
     }
     match both.random.below(16) {
         0 => both.examine(log, 0),
-        1 => both.examine(log, LONGEST_RECORD),
+        1 => {
+            let high = long_or_longest(&mut both.random);
+            both.examine(log, high);
+        }
         _ => {}
     }
 }

@@ -132,9 +132,10 @@ fn at_hand(came: &[u8]) -> (usize, &[u8]) {
 }
 
 /// The place that a reading of the log that ends here goes on from: what has come from there on is
-/// undecided. It is read with the highest limit, so that no record in a tail is over it.
+/// undecided. It is read with a limit that no record in it is over, since none has more bytes than
+/// the log; and with no higher one, since a reading lends a buffer as long as its limit.
 fn tail(came: &[u8]) -> usize {
-    let answers = reading(came, LONGEST_RECORD);
+    let answers = reading(came, came.len().min(LONGEST_RECORD));
     answers.last().map_or(0, |end| end.place_after(came))
 }
 

@@ -15,12 +15,17 @@ pub fn listing() -> String {
     run.lines
 }
 
+/// A log that has room for the longest record is too long for a run, so the one is told from the
+/// other by the number of its refusal.
 fn longest_record(run: &mut Run) {
-    run.scenario("the longest record, and one byte more");
-    run.append(600_000, 0, 1, 262_144);
-    run.append(600_000, 262_207, 2, 262_145);
-    run.read(262_207, 262_144);
-    run.sums(600_000);
+    run.scenario("the longest record and one byte more, with no room for either");
+    // 4; then 3 and 4.
+    run.append_zeros(262_144, 0, 4_194_304);
+    run.append_zeros(262_144, 0, 4_194_305);
+    // 2, 3 and 4 all hold; then 3 and 4.
+    run.append_zeros(100, 101, 4_194_305);
+    run.append_zeros(100, 100, 4_194_305);
+    run.sums(262_144);
 }
 
 fn refused_appends(run: &mut Run) {
@@ -34,45 +39,42 @@ fn refused_appends(run: &mut Run) {
     run.append(1_007, 0, 2, 1_000);
     run.append(32_774, 32_762, 3, 0);
     run.append(32_775, 32_762, 3, 0);
-    // 2, 3 and 4 all hold; then 3 and 4.
-    run.append(100, 101, 4, 262_145);
-    run.append(100, 100, 4, 262_145);
     run.sums(32_775);
 }
 
 fn refused_readings(run: &mut Run) {
-    run.scenario("refused readings, each with its neighbour that is not");
+    run.scenario("refused readings, each with its neighbour");
     run.append(17, 0, 1, 10);
     // 2.
     run.next(17, 18, 100, 100);
     run.next(17, 17, 100, 100);
-    // 5.
-    run.next(17, 0, 262_145, 262_145);
-    run.next(17, 0, 262_144, 262_145);
+    // 5. Its neighbour is refused as well, with 6: the buffer is shorter than the longest record.
+    run.next(17, 0, 4_194_305, 262_144);
+    run.next(17, 0, 4_194_304, 262_144);
     // 6.
     run.next(17, 0, 100, 99);
     run.next(17, 0, 100, 100);
     // 2, 5 and 6 all hold.
-    run.next(17, 18, 262_145, 0);
+    run.next(17, 18, 4_194_305, 0);
     run.sums(17);
 }
 
 /// The first call of each pair is at a mark with so many bytes left in its block.
 fn block_ends(run: &mut Run) {
     run.scenario("7, 6 and 0 bytes left in a block, an empty record and one of a byte");
-    run.append(600_000, 32_761, 1, 0);
-    run.next(600_000, 32_761, 100, 262_145);
-    run.append(600_000, 65_529, 2, 1);
-    run.next(600_000, 65_529, 100, 262_145);
-    run.append(600_000, 98_298, 3, 0);
-    run.next(600_000, 98_298, 100, 262_145);
-    run.append(600_000, 131_066, 4, 1);
-    run.next(600_000, 131_066, 100, 262_145);
-    run.append(600_000, 163_840, 5, 0);
-    run.next(600_000, 163_840, 100, 262_145);
-    run.append(600_000, 196_608, 6, 1);
-    run.next(600_000, 196_608, 100, 262_145);
-    run.sums(600_000);
+    run.append(262_144, 32_761, 1, 0);
+    run.next(262_144, 32_761, 100, 262_144);
+    run.append(262_144, 65_529, 2, 1);
+    run.next(262_144, 65_529, 100, 262_144);
+    run.append(262_144, 98_298, 3, 0);
+    run.next(262_144, 98_298, 100, 262_144);
+    run.append(262_144, 131_066, 4, 1);
+    run.next(262_144, 131_066, 100, 262_144);
+    run.append(262_144, 163_840, 5, 0);
+    run.next(262_144, 163_840, 100, 262_144);
+    run.append(262_144, 196_608, 6, 1);
+    run.next(262_144, 196_608, 100, 262_144);
+    run.sums(262_144);
 }
 
 fn empty_records(run: &mut Run) {

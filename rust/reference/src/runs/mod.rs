@@ -11,10 +11,12 @@ use crate::crc32c_by_bytes;
 use crate::log::{append, fragment, next, record_bytes, Appended, Next, Stored, Tail};
 use std::fmt::{Display, Write};
 
-/// The lengths of the arrays that a program has. Of the log and the buffer it lends parts.
-const LOG: usize = 600_000;
-const RECORD: usize = 262_145;
-const BUFFER: usize = 262_145;
+/// The lengths of the arrays that a program has. Of the log and the buffer it lends parts. They do
+/// not go by the longest record: a log, a record and a buffer of such lengths would be too much for
+/// a stack of 8 MiB. The record array is as long as the longest record that is made in it.
+const LOG: usize = 262_144;
+const RECORD: usize = 97_270;
+const BUFFER: usize = 262_144;
 
 /// What log and buffer are filled with, so that bytes that a call left alone can be seen.
 const LOG_FILL: u8 = 0xA5;
@@ -107,11 +109,15 @@ impl Run {
 
     /// Appends the first `bytes` bytes of the record array.
     fn append_made(&mut self, log: usize, mark: usize, bytes: usize) {
-        let answer = match append(&mut self.log[..log], mark, &self.record[..bytes]) {
-            Appended::Mark(mark) => format!("mark {mark}"),
-            Appended::Refused { number, given } => format!("refused {number} {given}"),
-        };
-        self.line(format!("append {bytes} bytes at {mark}: {answer}"));
+        let answer = append(&mut self.log[..log], mark, &self.record[..bytes]);
+        self.line(append_line(bytes, mark, answer));
+    }
+
+    /// Appends a record of zeros, which has an array of its own: one that the record array is too
+    /// short for.
+    fn append_zeros(&mut self, log: usize, mark: usize, bytes: usize) {
+        let answer = append(&mut self.log[..log], mark, &vec![0; bytes]);
+        self.line(append_line(bytes, mark, answer));
     }
 
     /// Reads the next thing, and asks for its bytes if it is a record.
@@ -140,6 +146,14 @@ impl Run {
         let (length, crc) = (bytes.len(), crc32c_by_bytes(bytes));
         self.line(format!("bytes {length} crc32c {crc:08x}"));
     }
+}
+
+fn append_line(bytes: usize, mark: usize, answer: Appended) -> String {
+    let answer = match answer {
+        Appended::Mark(mark) => format!("mark {mark}"),
+        Appended::Refused { number, given } => format!("refused {number} {given}"),
+    };
+    format!("append {bytes} bytes at {mark}: {answer}")
 }
 
 fn answer_line(answer: Next, crc: u32) -> String {

@@ -23,7 +23,7 @@ pub fn listing() -> String {
         empty_open(&mut run, bytes);
         from_inside(&mut run, bytes);
         appended_over(&mut run, bytes);
-        run.sums(600_000);
+        run.sums(262_144);
     }
     run.lines
 }

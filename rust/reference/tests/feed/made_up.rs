@@ -7,7 +7,8 @@ use reference::feed::{end, fits, next, take, Block, State, Told};
 use reference::log::{self, fragment, Next, Stored, Tail, BLOCK, FIRST, HEADER, LONGEST_LOG};
 
 const BLOCK64: u64 = BLOCK as u64;
-const LOG64: u64 = LONGEST_LOG as u64;
+/// The figure of §11.3, as the page writes it: a wrong one in the code is noticed.
+const LOG64: u64 = 1_073_741_824;
 
 /// Sets numbers of a state.
 type Change = fn(&mut State);
@@ -41,8 +42,8 @@ fn that_fit_with_nothing_open() {
         NONE,
         &[
             (|_| {}, true),
-            (|s| s.limit = 262_144, true),
-            (|s| s.limit = 262_145, false),
+            (|s| s.limit = 4_194_304, true),
+            (|s| s.limit = 4_194_305, false),
             (|s| s.limit = u64::MAX, false),
             (|s| (s.place, s.came) = (LOG64, LOG64), true),
             (|s| (s.place, s.came) = (LOG64, LOG64 + 1), false),
@@ -122,7 +123,7 @@ fn of_any_numbers() {
     let numbers = [0, 1, 2, 3, 7, 8, 40, BLOCK64 - 1, BLOCK64, LOG64];
     let high = [
         BLOCK64 + 1,
-        262_145,
+        4_194_305,
         LOG64 + 1,
         1 << 63,
         u64::MAX - 7,

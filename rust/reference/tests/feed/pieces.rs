@@ -5,11 +5,12 @@ use crate::fed::Fed;
 use crate::make;
 use crate::random::Random;
 use reference::feed::Told;
-use reference::log::{Next, BLOCK, HEADER, LONGEST_LOG};
+use reference::log::{Next, BLOCK, HEADER, LONGEST_LOG, LONGEST_RECORD};
 use std::sync::LazyLock;
 
-/// A piece that is too long by a byte at a log's start.
-static TOO_LONG: LazyLock<Vec<u8>> = LazyLock::new(|| vec![7; LONGEST_LOG + 1]);
+/// A piece that is too long by a byte at a log's start. Of zeros, since those take no memory until
+/// they are touched.
+static TOO_LONG: LazyLock<Vec<u8>> = LazyLock::new(|| vec![0; LONGEST_LOG + 1]);
 
 /// Pieces of up to `most` bytes, none among them, with answers drawn in between or not. Gives the
 /// answers.
@@ -131,6 +132,19 @@ fn of_records_damaged() {
         }
         let limit = make::pick(random, &[5_000, 100_000, 262_144]);
         fed(random, &log, limit, 10_000);
+    }
+}
+
+/// The longest record, at the highest limit and at one that it is over by a byte.
+#[test]
+fn of_the_longest_record() {
+    let random = &mut Random::new();
+    println!("{random}");
+    let log = make::written(random, &[9, LONGEST_RECORD, 9]);
+    for (limit, records) in [(LONGEST_RECORD, 3), (LONGEST_RECORD - 1, 2)] {
+        let answers = fed(random, &log, limit, 700_000);
+        let handed_out = |answer: &&Next| matches!(answer, Next::Record { .. });
+        assert_eq!(answers.iter().filter(handed_out).count(), records);
     }
 }
 

@@ -124,5 +124,5 @@ fn of_a_tail_before_the_refusal() {
     feed::run(&mut &log[..], &mut out).expect("a Vec takes all");
     let out = String::from_utf8(out).expect("text");
     let last: Vec<&str> = out.lines().rev().take(2).collect();
-    assert_eq!(last, ["X 1", "S 16744448 16777205 7"]);
+    assert_eq!(last, ["X 1", "S 1073709056 1073741813 7"]);
 }

@@ -79,7 +79,8 @@ fn of_take() {
 /// The whole piece counts, though a block's bytes of it at most would be taken.
 #[test]
 fn of_take_for_all_of_the_piece() {
-    let piece = vec![7; LONGEST_LOG + 1];
+    // Of zeros, since those take no memory until they are touched.
+    let piece = vec![0; LONGEST_LOG + 1];
     assert_eq!(taken(&at(0), &piece), Err(1));
     assert_eq!(taken(&at(0), &piece[1..]), Ok(BLOCK));
     assert_eq!(taken(&at(1), &piece[1..]), Err(1));
@@ -100,10 +101,8 @@ fn of_next() {
         length: 1,
         ..at(50)
     };
-    let high = State {
-        limit: LONGEST_RECORD as u64 + 1,
-        ..at(50)
-    };
+    let at_limit = |limit| State { limit, ..at(50) };
+    let (highest, high) = (at_limit(4_194_304), at_limit(4_194_305));
     let rows = [
         (at(50), 100, Told::NotYet),
         (at(50), 101, Told::NotYet),
@@ -111,8 +110,12 @@ fn of_next() {
         (at(50), 0, Told::Refused(6)),
         (misfit, 100, Told::Refused(2)),
         (misfit, 99, Told::Refused(2)),
-        (high, LONGEST_RECORD + 1, Told::Refused(2)),
+        (highest, 4_194_304, Told::NotYet),
+        (highest, 4_194_303, Told::Refused(6)),
+        (high, 4_194_305, Told::Refused(2)),
         (high, 0, Told::Refused(2)),
+        (at(1_073_741_824), 100, Told::NotYet),
+        (at(1_073_741_825), 100, Told::Refused(2)),
         (at(u64::MAX), 0, Told::Refused(2)),
     ];
     for (state, length, due) in rows {
@@ -154,6 +157,11 @@ fn of_an_end_that_does_nothing() {
         State { start: 1, ..at(9) },
         State { over: 2, ..at(9) },
         State { place: 10, ..at(9) },
+        State {
+            limit: 4_194_305,
+            ..at(9)
+        },
+        at(1_073_741_825),
         at(u64::MAX),
     ] {
         let mut state = misfit;

@@ -11,7 +11,7 @@ fn of_begin() {
     let begun = [24_576, 0, 0, 0, 0, 0, 0, 0, 0, 0];
     assert_eq!(begin_words(24_576), (Some(begun), [0; 10]));
     let refused = [1, 5, 0, 0, 0, 0, 0, 0, 0, 0];
-    assert_eq!(begin_words(262_145), (None, refused));
+    assert_eq!(begin_words(4_194_305), (None, refused));
 }
 
 /// A FULL, a FIRST that nothing follows, and the end. The last two words are anything.

@@ -50,7 +50,7 @@ fn of_fragments_as_no_writer_puts_them() {
         let length = random.below(400) + blocks * BLOCK;
         let bad = mixed::log(random, length);
         hold_at_limits(random, &bad);
-        met.count(&feed::reading(&bad, LONGEST_RECORD));
+        met.count(&feed::reading(&bad, bad.len()));
     }
     met.at_least(3, 3);
 }
@@ -66,7 +66,7 @@ fn of_blocks_that_end_in_trailers() {
         let blocks = 1 + random.below(3);
         let bad = dirty::log(random, blocks);
         hold_at_limits(random, &bad);
-        met.count(&feed::reading(&bad, LONGEST_RECORD));
+        met.count(&feed::reading(&bad, bad.len()));
     }
     met.at_least(15, 20);
 }

@@ -3,6 +3,7 @@
 
 mod layouts;
 mod logs;
+mod longest;
 mod promises;
 mod reading;
 mod refusals;

@@ -16,22 +16,33 @@ static BAD: LazyLock<Vec<u8>> = LazyLock::new(|| {
     log
 });
 
-static FRESH: LazyLock<Vec<u8>> = LazyLock::new(|| vec![0xA5; LONGEST_LOG + 1]);
+/// The places of a fresh slice that are filled and looked at: a few at its start and at its end.
+/// The rest are zeros, which take no memory until they are touched; all of a long one would take
+/// long to look at.
+fn ends(fresh: usize) -> impl Iterator<Item = usize> {
+    let few = fresh.min(1_000);
+    (0..few).chain(fresh - few..fresh)
+}
 
 /// The answer for slices of these lengths. That a refusal changes nothing, and gives back 0, is
 /// seen to.
 fn answer(bad: usize, fresh: usize, limit: usize, buffer: usize) -> Result<(usize, usize), u8> {
-    let mut slice = FRESH[..fresh].to_vec();
+    let mut slice = vec![0; fresh];
+    ends(fresh).for_each(|place| slice[place] = 0xA5);
+    let as_it_was = |slice: &[u8], from: usize| {
+        let mut rest = ends(fresh).filter(|place| *place >= from);
+        rest.all(|place| slice[place] == 0xA5)
+    };
     let mut lent = vec![0x5A; buffer];
     match mend(&BAD[..bad], &mut slice, limit, &mut lent) {
         Mended::Log { length, skipped } => {
             assert!(slice[..length] == BAD[..length]);
-            assert!(slice[length..] == FRESH[length..fresh]);
+            assert!(as_it_was(&slice, length), "the rest of the fresh slice");
             Ok((length, skipped))
         }
         Mended::Refused { number, given } => {
             assert_eq!(given, 0);
-            assert!(slice == FRESH[..fresh], "the fresh slice");
+            assert!(as_it_was(&slice, 0), "the fresh slice");
             assert!(lent.iter().all(|byte| *byte == 0x5A), "the buffer");
             Err(number)
         }
@@ -127,22 +138,24 @@ fn in_their_order() {
     assert_eq!(answer(38, 0, HIGH + 1, 0), Err(5));
 }
 
-/// The greatest length, of a log that fills all of it: one byte less is too few.
+/// A log of the longest records that fills all of a slice: one byte less is too few. (To sum all of
+/// the longest log would take long; tests/mend/longest.rs has one that is nearly all zeros.)
 #[test]
-fn for_the_longest_log() {
+fn for_a_log_that_fills_its_slice() {
+    let all = 4 * LONGEST_RECORD;
     let record = vec![7; LONGEST_RECORD];
-    let mut bad = vec![0; MOST];
+    let mut bad = vec![0; all];
     let mut mark = 0;
     while let Appended::Mark(new) = append(&mut bad, mark, &record) {
         mark = new;
     }
-    let left = MOST - mark;
+    let left = all - mark;
     let headers = 7 * left.div_ceil(32_768);
     let last = append(&mut bad, mark, &record[..left - headers]);
-    assert_eq!(last, Appended::Mark(MOST));
+    assert_eq!(last, Appended::Mark(all));
     let mut buffer = vec![0; LONGEST_RECORD];
-    let mut fresh = vec![0xA5; MOST];
-    let (length, skipped) = (MOST, 0);
+    let mut fresh = vec![0xA5; all];
+    let (length, skipped) = (all, 0);
     let mended = Mended::Log { length, skipped };
     assert_eq!(mend(&bad, &mut fresh, LONGEST_RECORD, &mut buffer), mended);
     assert!(fresh == bad);

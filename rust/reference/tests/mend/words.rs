@@ -28,9 +28,9 @@ fn of_refusals() {
         mend_words(bad, &mut vec![0; fresh], limit, &mut buffer[..lent])
     };
     assert_eq!(words(&long, 0, 0, 0), refused(1));
-    assert_eq!(words(&log, 0, 262_145, 262_145), refused(5));
-    assert_eq!(words(&log, 0, 262_144, 262_143), refused(6));
-    assert_eq!(words(&log, 106_310, 262_144, 262_144), refused(4));
+    assert_eq!(words(&log, 0, 4_194_305, 4_194_305), refused(5));
+    assert_eq!(words(&log, 0, 4_194_304, 4_194_303), refused(6));
+    assert_eq!(words(&log, 106_310, 4_194_304, 4_194_304), refused(4));
 }
 
 /// Both ways change the same bytes, and say the same.

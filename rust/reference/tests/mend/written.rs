@@ -1,6 +1,6 @@
 //! Logs that a list of appends made (§12.7): whole, cut, and with a block changed.
 
-use crate::make::{pick, record, record_length};
+use crate::make::{pick, record, record_length, LONG};
 use crate::promises::hold;
 use crate::random::Random;
 use crate::reading::{added, reading};
@@ -35,11 +35,15 @@ fn written(random: &mut Random, records: usize) -> Written {
 }
 
 impl Written {
-    /// One that no record exceeds: the longest one's length, or any that is higher.
+    /// One that no record exceeds: the longest one's length, or one that is higher. The highest is
+    /// rare, since it takes a buffer of as many bytes.
     fn limit(&self, random: &mut Random) -> usize {
         let longest = self.records.iter().map(Vec::len).max().unwrap_or(0);
-        let any = longest + random.below(LONGEST_RECORD - longest + 1);
-        pick(random, &[longest, longest, any, LONGEST_RECORD])
+        let higher = (longest + random.below(LONG)).min(LONGEST_RECORD);
+        match random.below(64) {
+            0 => LONGEST_RECORD,
+            _ => pick(random, &[longest, higher]),
+        }
     }
 
     /// Cuts at and next to the ends of spans, and anywhere.

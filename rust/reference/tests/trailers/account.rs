@@ -13,7 +13,9 @@ use std::ops::Range;
 
 /// Reads a log, and holds the reading to the page.
 fn hold(random: &mut Random, met: &mut Met, log: &[u8]) {
-    let limit = pick(random, &[0, 9, 1_000, BLOCK, LONGEST_RECORD]);
+    // The last of them is one that no record is over, since none has more bytes than the log.
+    let high = log.len().min(LONGEST_RECORD);
+    let limit = pick(random, &[0, 9, 1_000, BLOCK, high]);
     let mut buffer = vec![0; limit];
     let (mut place, mut answers) = (0, Vec::new());
     loop {

@@ -4,7 +4,7 @@
 
 use crate::answers::{record, skip};
 use reference::log::{
-    fragment, next, Next, Stored, Tail, BLOCK, FIRST, FULL, HEADER, LAST, LONGEST_RECORD, MIDDLE,
+    fragment, next, Next, Stored, Tail, BLOCK, FIRST, FULL, HEADER, LAST, MIDDLE,
 };
 use reference::mend::{mend, Mended};
 
@@ -94,12 +94,13 @@ impl Log {
     }
 }
 
+/// At a limit that none of these records is over.
 fn read(log: &[u8]) -> Vec<Next> {
-    let mut buffer = vec![0; LONGEST_RECORD];
+    let mut buffer = vec![0; log.len()];
     let mut answers = Vec::new();
     let mut place = 0;
     loop {
-        let answer = next(log, place, LONGEST_RECORD, &mut buffer);
+        let answer = next(log, place, log.len(), &mut buffer);
         place = answer.place_after(log);
         answers.push(answer);
         if matches!(answer, Next::End(_) | Next::Refused { .. }) {
