@@ -1,7 +1,6 @@
 //! A journal that is read as it comes, in memory that does not grow with it.
 
 use crate::progress::Progress;
-use crate::words::{bytes, short};
 use mellansko::{Answer, Feed, NotRead, BLOCK};
 use std::ffi::OsStr;
 use std::io::{self, Read};
@@ -48,9 +47,8 @@ impl<'a, R: Read> Fed<'a, R> {
             let taken = self.feed.take(piece)?;
             assert_eq!(taken, length, "there was room for {room} bytes");
         }
-        let (name, came) = (self.name, self.feed.came());
         if let Some(progress) = &mut self.progress {
-            progress.show(|| format!("{}: {} read", short(name), bytes(came)));
+            progress.read(self.name, self.feed.came());
         }
         Ok(piece)
     }

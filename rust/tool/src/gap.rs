@@ -74,12 +74,12 @@ impl Gap {
         }
     }
 
-    /// Counts a range, and keeps it unless that would be more than so many.
-    pub fn add(&mut self, range: Doubt, most: usize) {
+    /// Counts a range, and keeps it if it is to be listed.
+    pub fn add(&mut self, range: Doubt, keep: bool) {
         self.number += 1;
         self.bytes += range.bytes();
         self.end = range.end;
-        if self.ranges.len() < most {
+        if keep {
             self.ranges.push(range);
         }
     }

@@ -2,12 +2,27 @@
 
 use crate::gap::{Doubt, Gap, Place};
 
-/// Where no more than so many gaps are kept, and no more than so many ranges of each, what this
-/// holds is bounded by the square of that number, however long the journal is.
+/// How much is kept.
+#[derive(Clone, Copy)]
+pub struct Most {
+    /// So many gaps, and so many ranges of each.
+    pub each: usize,
+    /// So many ranges in all. A gap that is kept has at least one, so this bounds all that is.
+    pub ranges: usize,
+}
+
+impl Most {
+    /// Where gaps are only counted.
+    pub const NONE: Most = Most { each: 0, ranges: 0 };
+}
+
+/// What this holds is bounded by the most that is kept, however long the journal is.
 pub struct Gaps {
-    most: usize,
+    most: Most,
     /// The first gaps, in order.
     pub kept: Vec<Gap>,
+    /// How many of their ranges are kept.
+    ranges: usize,
     /// How many come after these, and how many bytes are in doubt there.
     pub more: usize,
     pub bytes_in_more: usize,
@@ -16,11 +31,12 @@ pub struct Gaps {
 }
 
 impl Gaps {
-    /// None yet. Of those to come, so many are kept, and so many ranges of each.
-    pub fn new(most: usize) -> Gaps {
+    /// None yet. Of those to come, so much is kept.
+    pub fn new(most: Most) -> Gaps {
         Gaps {
             most,
             kept: Vec::new(),
+            ranges: 0,
             more: 0,
             bytes_in_more: 0,
             open: false,
@@ -29,7 +45,8 @@ impl Gaps {
 
     /// A range in doubt, which comes after this record that can be read.
     pub fn add(&mut self, before: Option<Place>, range: Doubt) {
-        if !self.open && self.kept.len() < self.most {
+        let room = self.ranges < self.most.ranges;
+        if !self.open && room && self.kept.len() < self.most.each {
             self.kept.push(Gap::new(before, &range));
         } else if !self.open {
             self.more += 1;
@@ -37,7 +54,11 @@ impl Gaps {
         self.open = true;
         // Once one is not kept, no later one is.
         match self.kept.last_mut() {
-            Some(gap) if self.more == 0 => gap.add(range, self.most),
+            Some(gap) if self.more == 0 => {
+                let keep = room && gap.ranges.len() < self.most.each;
+                self.ranges += usize::from(keep);
+                gap.add(range, keep);
+            }
             _ => self.bytes_in_more += range.bytes(),
         }
     }

@@ -3,6 +3,7 @@
 //! A line that begins with no space is a paragraph. One that begins with two is a row of a table, or
 //! a point of a list. One that begins with four can be typed as it stands, and is never broken.
 
+use crate::list;
 use crate::page::Page;
 use crate::screen::Screen;
 use crate::shell::me;
@@ -44,6 +45,7 @@ fn with_figures(text: &str) -> String {
     text.replace("{BLOCK}", &grouped(BLOCK))
         .replace("{RECORD}", &grouped(LONGEST_RECORD))
         .replace("{LOG}", &grouped(LONGEST_LOG))
+        .replace("{RANGES}", &grouped(list::KEPT.ranges))
         .replace("{REASONS}", &reasons())
         .replace("{me}", &me())
 }
@@ -90,7 +92,8 @@ each gap is listed: between which records it lies, and which ranges of bytes in 
 Places count from 0 and a range ends before its second number. Blocks, of {BLOCK} bytes, and records count from 1; \
 only records that can be read are counted.
 
-  --all   list every gap and every range, and not the first twenty alone
+  --all   list every gap and every range, and not the first twenty alone; but of what can be read only once, such as standard \
+input, no more than {RANGES} ranges
 
 If no damage is found, all that is in the file reads as records, or as empty starts of records, \
 and nothing is torn; the up to six bytes that fill up a block, where nothing more fits, are zero. \
@@ -264,7 +267,11 @@ disk. Until then it is a file in the same folder that is called mellansko-mend-,
 .unfinished, and that is removed if anything fails. If that fails too, it says so. Such a file may \
 be left if the tool is ended halfway; it can be removed.
 
-BAD is a plain file of at most {LOG} bytes. While an append writes to it, it is not mended, and \
+BAD is a plain file of at most {LOG} bytes. Both journals are in memory while it is mended: that \
+takes a little more than twice BAD's length, and the {RECORD} bytes of the longest record. If the \
+system does not grant it, that is said, and nothing is written.
+
+While an append writes to BAD, it is not mended, and \
 while it is mended, an append to it is refused. What no reader can tell does not show here either; \
 mellansko verify --help lists it.
 

@@ -4,7 +4,7 @@ use crate::fed::Fed;
 use crate::progress::Progress;
 use crate::shell::{another, for_mended, me, operand, to_mend, typed};
 use crate::trouble::{note, Trouble};
-use crate::words::{bytes, grouped, short};
+use crate::words::grouped;
 use crate::wrap::tied;
 use mellansko::{Condition, Feed, NotRead, Refusal, LONGEST_LOG, LONGEST_RECORD};
 use std::ffi::{OsStr, OsString};
@@ -41,18 +41,6 @@ impl Source {
         }
     }
 
-    /// All of it; of one that is too long, one byte more than a journal may have, at which the
-    /// proved calls refuse it.
-    pub fn read(&self, progress: &mut Progress) -> Result<Vec<u8>, Trouble> {
-        match self {
-            Source::File(path) => {
-                File::open(path).and_then(|file| read(file, self.name(), LONGEST_LOG, progress))
-            }
-            Source::StandardInput => return read_input(PROMPT, LONGEST_LOG, progress),
-        }
-        .map_err(|error| Trouble::io(self.name(), "be read", &error))
-    }
-
     /// It as it comes, with a limit on the length of a record.
     pub fn fed<'a>(
         &'a self,
@@ -64,6 +52,7 @@ impl Source {
             Source::StandardInput => None,
         };
         let feed = Feed::with_limit(limit)?;
+        progress.begin(file.as_ref().and_then(length_of));
         let (from, progress): (Box<dyn Read>, _) = match file {
             Some(file) => (Box::new(file), Some(progress)),
             None => {
@@ -102,12 +91,24 @@ impl Source {
 /// has come, and then the proved reader refuses it.
 pub fn open(path: &OsStr) -> Result<File, NotRead> {
     let file = File::open(path)?;
+    refuse_too_long(&file)?;
+    Ok(file)
+}
+
+/// Refuses a plain file that has more bytes than a journal may have.
+pub fn refuse_too_long(file: &File) -> Result<(), NotRead> {
     let about = file.metadata()?;
     if about.is_file() && about.len() > LONGEST_LOG as u64 {
         let (condition, given) = (Condition::LogTooLong, 0);
         return Err(Refusal { condition, given }.into());
     }
-    Ok(file)
+    Ok(())
+}
+
+/// How many bytes a plain file has.
+pub fn length_of(file: &File) -> Option<usize> {
+    let about = file.metadata().ok().filter(|about| about.is_file())?;
+    about.len().try_into().ok()
 }
 
 const PROMPT: &str = "reading a journal from the terminal; end it with Ctrl-D on a line of its own";
@@ -136,7 +137,7 @@ fn is_typed(input: &impl IsTerminal, prompt: &str) -> bool {
 }
 
 /// At most one byte more than so many.
-pub fn read(
+fn read(
     from: impl Read,
     name: &OsStr,
     most: usize,
@@ -154,7 +155,7 @@ pub fn read(
             Err(error) if error.kind() == io::ErrorKind::Interrupted => {}
             Err(error) => return Err(error),
         }
-        progress.show(|| format!("{}: {} read", short(name), bytes(used)));
+        progress.read(name, used);
     }
     all.truncate(used);
     Ok(all)

@@ -1,19 +1,57 @@
 //! The gaps of a journal, each with its ranges.
 
 use crate::gap::{Doubt, Gap};
-use crate::gaps::Gaps;
+use crate::gaps::{Gaps, Most};
 use crate::rows::Rows;
-use crate::shell::typed;
+use crate::shell::{by_way_of_a_file, typed};
 use crate::trouble::Trouble;
 use crate::words::{self, bytes, count, grouped};
 use mellansko::{Reason, LONGEST_RECORD};
 use std::ffi::OsStr;
 
 /// As many gaps, and as many ranges of one, as are listed unless all are asked for.
-pub const MOST: usize = 20;
+pub const FIRST: Most = Most {
+    each: 20,
+    ranges: 20 * 20,
+};
 
-/// Those that were kept, and how many there are besides, of the journal that the word names.
-pub fn gaps(gaps: &Gaps, word: &OsStr, rows: &mut Rows) -> Result<(), Trouble> {
+/// As many as are listed where all are asked for of what can be read only once. They have to be kept,
+/// since the answer comes before them: these take 20 MB at most.
+pub const KEPT: Most = Most {
+    each: usize::MAX,
+    ranges: 100_000,
+};
+
+/// How to see all gaps, where not all are listed.
+pub struct All {
+    lead: String,
+    command: String,
+}
+
+impl All {
+    /// Of the journal that the word names.
+    pub fn of(word: &OsStr) -> All {
+        All {
+            lead: "To see all of them:".into(),
+            command: typed("verify --all", word, ""),
+        }
+    }
+
+    /// The same, where all were asked for already.
+    pub fn by_way_of_a_file(word: &OsStr) -> All {
+        All {
+            lead: format!(
+                "Of a journal that can be read only once, no more than {} are listed. To see all \
+                 of them, with the same input again, by way of a file:",
+                count(KEPT.ranges, "range", "ranges")
+            ),
+            command: by_way_of_a_file("verify --all", word),
+        }
+    }
+}
+
+/// Those that were kept, and how many there are besides.
+pub fn gaps(gaps: &Gaps, all: &All, rows: &mut Rows) -> Result<(), Trouble> {
     gaps.kept.iter().try_for_each(|gap| list(gap, rows))?;
     if gaps.more > 0 {
         let more = count(gaps.more, "more gap", "more gaps");
@@ -21,9 +59,8 @@ pub fn gaps(gaps: &Gaps, word: &OsStr, rows: &mut Rows) -> Result<(), Trouble> {
         rows.entry(&format!("And {more}, with {doubt} in doubt."))?;
     }
     if gaps.are_hidden() {
-        rows.entry("To see all of them:")?;
-        let all = typed("verify --all", word, "");
-        rows.write(|page| page.command(&all))?;
+        rows.entry(&all.lead)?;
+        rows.write(|page| page.command(&all.command))?;
     }
     Ok(())
 }

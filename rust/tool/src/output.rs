@@ -19,7 +19,8 @@ impl Output {
     }
 
     pub fn line(&mut self, line: &str) -> Result<(), Trouble> {
-        writeln!(self.0, "{line}").map_err(trouble)
+        self.write(line.as_bytes())?;
+        self.write(b"\n")
     }
 
     pub fn page(&mut self, page: &Page) -> Result<(), Trouble> {

@@ -64,9 +64,22 @@ pub fn to_mend(bad: &OsStr, new: &OsStr) -> String {
     ))
 }
 
+/// The tool with these words, on a new file to which that is written first which the word names. It
+/// can be typed in a pipe in place of the tool that was there.
+pub fn by_way_of_a_file(words: &str, word: &OsStr) -> String {
+    let first = OsStr::new("journal.log");
+    let file = free(iter::once(first.into()).chain(others(first)));
+    let (from, to) = (operand(word), quoted(&file));
+    tied(&format!("cat {from} >{to} && {} {words} {to}", me()))
+}
+
 /// A name like this one that no file has yet.
 pub fn another(file: &OsStr) -> OsString {
-    free((2..).map(|number| like(file, &format!("-{number}"))))
+    free(others(file))
+}
+
+fn others(file: &OsStr) -> impl Iterator<Item = PathBuf> + '_ {
+    (2..).map(|number| like(file, &format!("-{number}")))
 }
 
 /// The same, for what is mended of this one.

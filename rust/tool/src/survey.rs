@@ -2,7 +2,7 @@
 
 use crate::empty_starts::EmptyStarts;
 use crate::gap::{Doubt, Place};
-use crate::gaps::Gaps;
+use crate::gaps::{Gaps, Most};
 use crate::walk::{Thing, Walk};
 use crate::words::blocks_of;
 use crate::Status;
@@ -24,7 +24,7 @@ pub struct Survey {
     pub torn: Option<usize>,
     /// What is skipped, and not in doubt.
     pub empty_starts: EmptyStarts,
-    /// What is in each block. A journal has at most 512 blocks, or it is refused.
+    /// What is in each block. A journal has at most 32,768 blocks, or it is refused.
     pub marks: Vec<Mark>,
 }
 
@@ -40,11 +40,11 @@ pub struct Mark {
 }
 
 impl Survey {
-    /// Goes through a journal to its end. Of its gaps so many are kept, and so many ranges of each.
-    /// Each piece that comes is handed on.
+    /// Goes through a journal to its end. Of its gaps so much is kept. Each piece that comes is
+    /// handed on.
     pub fn of(
         mut walk: Walk<impl Read>,
-        most: usize,
+        most: Most,
         mut piece: impl FnMut(&[u8]),
     ) -> Result<Survey, NotRead> {
         let mut survey = Survey {

@@ -16,7 +16,7 @@ pub struct Twins {
 }
 
 /// Finds them while a journal comes. It holds one block, and a digest of each before it, of which
-/// there are at most 512: a longer journal is refused.
+/// there are at most 32,768: a longer journal is refused.
 ///
 /// A digest has 128 bits, under keys that are drawn anew for each run. So nobody can make blocks
 /// that differ and pass for equal, and that two happen to is out of reach. What came over a pipe

@@ -17,6 +17,9 @@ pub struct Walk<'a, R> {
     fed: Fed<'a, R>,
     /// How many records were found.
     records: usize,
+    /// The number of the one whose bytes are kept, and these once it is found.
+    wanted: Option<usize>,
+    kept: Option<Vec<u8>>,
     ended: bool,
 }
 
@@ -25,7 +28,17 @@ impl<'a, R: Read> Walk<'a, R> {
         Walk {
             fed,
             records: 0,
+            wanted: None,
+            kept: None,
             ended: false,
+        }
+    }
+
+    /// One that keeps the bytes of the record with this number, from 1 on.
+    pub fn keeping(number: usize, fed: Fed<'a, R>) -> Walk<'a, R> {
+        Walk {
+            wanted: Some(number),
+            ..Walk::new(fed)
         }
     }
 
@@ -37,7 +50,13 @@ impl<'a, R: Read> Walk<'a, R> {
             if let Some(answer) = self.fed.certain() {
                 let doubt = Doubt::by(&answer, came).map(Thing::Doubt);
                 return Ok(match answer {
-                    Answer::Record { record, .. } => Some(self.record(&record)),
+                    Answer::Record { record, bytes } => {
+                        self.records += 1;
+                        if self.wanted == Some(self.records) {
+                            self.kept = Some(bytes.into_owned());
+                        }
+                        Some(self.place(&record))
+                    }
                     Answer::Skip(skip) => doubt.or(Some(Thing::EmptyStart(skip))),
                     Answer::End(_) => {
                         self.ended = true;
@@ -54,13 +73,17 @@ impl<'a, R: Read> Walk<'a, R> {
         Ok(None)
     }
 
-    fn record(&mut self, record: &Record) -> Thing {
-        self.records += 1;
+    fn place(&self, record: &Record) -> Thing {
         Thing::Record(Place {
             number: self.records,
             start: record.start,
             end: record.end,
         })
+    }
+
+    /// The bytes of the record that was wanted, if it was found.
+    pub fn kept(self) -> Option<Vec<u8>> {
+        self.kept
     }
 
     /// How many bytes have come.

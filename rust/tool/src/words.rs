@@ -90,11 +90,10 @@ pub fn blocks_among(runs: &[(usize, usize)], in_all: usize) -> String {
     format!("{word} {} of{TIED}{}", runs.join(" and "), grouped(in_all))
 }
 
-/// The end of a file's name, short enough for a line with more on it.
-pub fn short(name: &OsStr) -> String {
-    const MOST: usize = 30;
+/// The end of a file's name, of so many characters, for a line with more on it.
+pub fn short(name: &OsStr, most: usize) -> String {
     let name = shown(name);
-    let more = name.chars().count().saturating_sub(MOST);
+    let more = name.chars().count().saturating_sub(most.max(1));
     match name.char_indices().nth(more) {
         Some((place, _)) if more > 0 => format!("...{}", &name[place..]),
         _ => name,

@@ -4,7 +4,7 @@
 mod common;
 
 use common::damage::mixed_log;
-use common::expect::{dumped, longest_log, mended, written, Found};
+use common::expect::{dumped, mended, written, Found};
 use common::files::{left_out, release, Folder};
 use common::random::Random;
 use common::{fed, finish, ran, tool, Ran};
@@ -114,7 +114,7 @@ fn what_verify_advises_can_be_typed_whatever_the_file_s_name() {
         let Some(dump) = typed(dump, &folder, b"") else {
             continue;
         };
-        assert_eq!(dump.text(), dumped(&log, 262_144), "{name:?}");
+        assert_eq!(dump.text(), dumped(&log, 4_194_304), "{name:?}");
         for (command, record) in [(before, 0), (after, 1), (last, 1)] {
             let ran = typed(command, &folder, b"").expect("a shell");
             assert!(ran.out == found.records[record].1, "{command}");
@@ -243,7 +243,7 @@ fn a_name_of_any_bytes_can_be_typed() {
         let Some(dump) = typed(commands(&ran)[0], &folder, b"") else {
             return;
         };
-        assert_eq!(dump.text(), dumped(&log, 262_144), "{name:?}");
+        assert_eq!(dump.text(), dumped(&log, 4_194_304), "{name:?}");
     }
 }
 
@@ -263,7 +263,7 @@ fn the_tool_is_named_as_it_was_called() {
             let ran = ran(command.args(["verify", "log"]));
             let commands = commands(&ran);
             let dump = typed(commands[0], &folder, b"").expect("a shell");
-            assert_eq!(dump.text(), dumped(&samples::torn(), 262_144));
+            assert_eq!(dump.text(), dumped(&samples::torn(), 4_194_304));
         }
         let mut wrong = called(path.as_os_str(), &folder);
         let wrong = self::ran(wrong.arg("nonsense"));
@@ -327,32 +327,15 @@ fn the_loop_of_cat_s_help_can_be_typed() {
 
 #[test]
 fn the_beginning_of_what_is_too_long_can_be_judged() {
-    let mut log = longest_log();
-    log.push(0);
     let folder = Folder::new("advice-long");
     for name in ["two words", "-dash"] {
-        folder.file(name, &log);
+        folder.zeros(name, 1_073_741_825);
         let ran = ran(called(own_name(), &folder).args(["verify", "--", name]));
         let (_, head) = ran.err.split_once("run: ").expect("advice");
         let ran = typed(head, &folder, b"").expect("a shell");
-        assert!(ran
-            .done()
-            .text()
-            .contains("no damage found in its 16 777 216 bytes"));
+        assert_eq!((ran.status, ran.err.as_str()), (Some(1), ""));
+        assert!(ran.text().contains("all of its 1 073 741 824 bytes"));
     }
-}
-
-#[test]
-fn a_journal_that_is_full_is_followed_by_another() {
-    let folder = Folder::new("advice-full");
-    folder.file("two words.log", &longest_log());
-    let ran = fed(
-        called(own_name(), &folder).args(["append", "two words.log"]),
-        b"x",
-    );
-    let (_, new) = ran.err.split_once("Begin another: ").expect("advice");
-    typed(new, &folder, b"new").expect("a shell").done();
-    assert_eq!(folder.names(), ["two words-2.log", "two words.log"]);
 }
 
 /// A log, what is said of it, and what is not.
@@ -362,7 +345,7 @@ fn cases() -> [Case; 8] {
     const LOST: &str = "may have been replaced";
     const TORN: &str = "when the power went";
     const WHAT: &str = "is it a journal?";
-    const LONG: &str = "A record of more than 262 144 bytes may be sound";
+    const LONG: &str = "A record of more than 4 194 304 bytes may be sound";
     const MEND: &str = "which will not show that anything is missing:     mellansko mend ";
     let orphan = fragment(LAST, b"orphan");
     let sound = fragment(FULL, b"sound");
@@ -371,7 +354,7 @@ fn cases() -> [Case; 8] {
     let both = [&gap[..], &sound[..5]].concat();
     let text = b"%PDF-1.4 and more".repeat(9);
     let first = fragment(FIRST, &[1; 32_761]);
-    let long = [first, fragment(MIDDLE, &[1; 32_761]).repeat(8)].concat();
+    let long = [first, fragment(MIDDLE, &[1; 32_761]).repeat(128)].concat();
     [
         (gap, &[LOST, MEND], &[TORN, WHAT, "append"]),
         (

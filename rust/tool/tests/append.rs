@@ -4,7 +4,7 @@
 mod common;
 
 use common::damage::{mixed_log, small_logs};
-use common::expect::{add, count, grouped, longest_log, written, Found};
+use common::expect::{add, count, grouped, written, Found};
 use common::files::{as_nobody, in_advice, left_out, Folder};
 use common::random::Random;
 use common::report::check_verdict;
@@ -50,7 +50,7 @@ fn a_journal_grows_as_the_reference_writes_it() {
     let folder = Folder::new("append-grow");
     let file = folder.join("log");
     let mut log = Vec::new();
-    for (i, length) in [5, 0, 1_000, 97_270, 8_000, 0, 262_144, 1]
+    for (i, length) in [5, 0, 1_000, 97_270, 8_000, 0, 4_194_304, 1]
         .into_iter()
         .enumerate()
     {
@@ -96,19 +96,20 @@ fn an_empty_file_is_a_journal_and_an_empty_input_a_record() {
 }
 
 #[test]
-fn a_record_of_262_144_bytes_is_taken_and_a_longer_one_refused() {
+fn a_record_of_4_194_304_bytes_is_taken_and_a_longer_one_refused() {
     let folder = Folder::new("append-longest");
     let before = written(&[b"times"]);
     let file = folder.file("log", &before);
-    append(&file, &vec![7; 262_145]).failed(2, &["log", "nothing was appended", "262 144", "3"]);
-    append(&file, &vec![7; 1_000_000]).failed(2, &["262 144", "refusal 3"]);
+    append(&file, &vec![7; 4_194_305])
+        .failed(2, &["log", "nothing was appended", "4 194 304", "3"]);
+    append(&file, &vec![7; 5_000_000]).failed(2, &["4 194 304", "refusal 3"]);
     assert_eq!(bytes_of(&file), before);
     let new = folder.join("new");
-    append_new(&new, &vec![7; 262_145]).failed(2, &["new", "refusal 3"]);
+    append_new(&new, &vec![7; 4_194_305]).failed(2, &["new", "refusal 3"]);
     assert!(!new.exists());
-    append(&file, &vec![7; 262_144]).done();
+    append(&file, &vec![7; 4_194_304]).done();
     let mut log = before;
-    add(&mut log, &vec![7; 262_144]);
+    add(&mut log, &vec![7; 4_194_304]);
     assert!(bytes_of(&file) == log);
 }
 
@@ -148,37 +149,6 @@ fn a_journal_in_doubt_is_refused_and_left_as_it_is() {
         assert_eq!(said[1..], advice);
         assert!(bytes_of(&file) == log, "{log:x?}");
     }
-}
-
-#[test]
-fn the_last_room_is_taken_and_no_more() {
-    let folder = Folder::new("append-room");
-    let longest = longest_log();
-    let file = folder.file("log", &longest);
-    append(&file, b"").failed(
-        2,
-        &["log", "nothing was appended", "16 777 216", "refusal 4"],
-    );
-    assert!(bytes_of(&file) == longest);
-
-    // Without its last record, of which all but one byte may be added again, and the whole too.
-    let found = Found::in_log(&longest);
-    let (range, last) = &found.records[found.records.len() - 1];
-    let file = folder.file("log", &longest[..range.start]);
-    let longer = [&last[..], b"1"].concat();
-    append(&file, &longer).failed(2, &["nothing was appended", "refusal 4", "--new"]);
-    assert!(bytes_of(&file) == longest[..range.start]);
-    append(&file, last).done();
-    assert!(bytes_of(&file) == longest);
-
-    let mut too_long = longest;
-    too_long.push(0);
-    let file = folder.file("log", &too_long);
-    append(&file, b"").failed(
-        2,
-        &["log", "nothing was appended", "16 777 216", "refusal 1"],
-    );
-    assert!(bytes_of(&file) == too_long);
 }
 
 #[test]

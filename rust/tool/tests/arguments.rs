@@ -47,11 +47,11 @@ fn help_comes_on_standard_output_for_the_tool_and_each_command() {
 #[test]
 fn help_names_the_figures_of_the_format() {
     for (command, figures) in [
-        ("verify", &["32 768", "262 144"][..]),
-        ("dump", &["16 777 216", "262 144"]),
-        ("map", &["32 768", "262 144"]),
-        ("append", &["16 777 216", "262 144"]),
-        ("mend", &["16 777 216", "262 144"]),
+        ("verify", &["32 768", "4 194 304"][..]),
+        ("dump", &["1 073 741 824", "4 194 304"]),
+        ("map", &["32 768", "4 194 304"]),
+        ("append", &["1 073 741 824", "4 194 304"]),
+        ("mend", &["1 073 741 824", "4 194 304"]),
     ] {
         let ran = run!(command, "--help");
         for figure in figures {

@@ -4,7 +4,7 @@
 #[macro_use]
 mod common;
 
-use common::expect::{longest_log, numbers, written, Found};
+use common::expect::{long_log, numbers, written, Found};
 use common::files::Folder;
 use common::report::check;
 use common::{fed, ran, tool, Ran};
@@ -168,9 +168,9 @@ fn only_whole_blocks_with_data_are_compared() {
 }
 
 #[test]
-fn the_longest_log_is_compared_soon() {
+fn a_long_log_is_compared_soon() {
     let begun = Instant::now();
-    let mut log = longest_log();
+    let mut log = long_log();
     let last = log.len() - BLOCK;
     let (front, back) = log.split_at_mut(last);
     back.copy_from_slice(&front[5 * BLOCK..6 * BLOCK]);

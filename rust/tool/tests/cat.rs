@@ -20,10 +20,10 @@ fn every_record_comes_out_byte_for_byte() {
         every_byte.repeat(500),
         b"\0".to_vec(),
         b"no line's end".to_vec(),
-        every_byte.repeat(1_024),
+        every_byte.repeat(16_384),
     ];
     let log = written(&records);
-    assert_eq!(records[5].len(), 262_144);
+    assert_eq!(records[5].len(), 4_194_304);
     let file = folder.file("log", &log);
     for (i, record) in records.iter().enumerate() {
         let number = (i + 1).to_string();

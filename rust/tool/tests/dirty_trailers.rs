@@ -199,7 +199,7 @@ fn mend_of_one_cut_and_of_one_with_a_record_open() {
 #[test]
 fn dump_lists_them_and_is_in_doubt() {
     for (log, says) in [(between(), BETWEEN), (cut(), CUT), (open(5), OPEN)] {
-        assert_eq!(dumped(&log, 262_144), says);
+        assert_eq!(dumped(&log, 4_194_304), says);
         assert_eq!(doubted(&on(&log, &["dump", "log"])), says);
         assert_eq!(doubted(&feed!(&log; "dump", "-")), says);
     }
@@ -226,10 +226,10 @@ fn comes_with(log: &[u8], moments: &[(usize, &str)]) {
         lines += line;
     }
     live.has_written(&lines);
-    assert_eq!(lines, certain(&log[..came], 262_144));
+    assert_eq!(lines, certain(&log[..came], 4_194_304));
     live.feed(&log[came..]);
     let ran = live.end();
-    assert_eq!(ran.text(), dumped(log, 262_144));
+    assert_eq!(ran.text(), dumped(log, 4_194_304));
     assert_eq!((ran.status, ran.err.as_str()), (Some(1), ""));
 }
 

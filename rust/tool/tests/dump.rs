@@ -4,7 +4,7 @@
 mod common;
 
 use common::damage::{dirty_logs, long_logs, mixed_log, small_logs};
-use common::expect::{dumped, example, longest_log, status_of_dump, written, Found};
+use common::expect::{dumped, example, long_log, status_of_dump, written, Found};
 use common::files::Folder;
 use common::random::Random;
 use common::{fed, tool};
@@ -49,12 +49,13 @@ fn damaged_logs_are_listed_as_the_reference_reads_them() {
     let mut random = Random::new();
     println!("{random}");
     for log in small_logs(&mut random).iter().step_by(3) {
-        check(log, 262_144);
+        check(log, 4_194_304);
     }
     for log in long_logs(&mut random, 20).iter().chain(&dirty_logs()) {
-        check(log, 262_144);
+        check(log, 4_194_304);
     }
-    check(&mixed_log(), 262_144);
+    check(&mixed_log(), 4_194_304);
+    check(&long_log(), 4_194_304);
 }
 
 #[test]
@@ -67,9 +68,9 @@ fn a_record_of_the_limit_is_listed_and_a_longer_one_skipped() {
         b"12",
         &[3; 1_000],
         &[4; 40_000],
-        &[5; 262_144],
+        &vec![5; 4_194_304],
     ]);
-    for limit in [0, 1, 2, 999, 1_000, 39_999, 40_000, 262_143, 262_144] {
+    for limit in [0, 1, 2, 999, 1_000, 39_999, 40_000, 4_194_303, 4_194_304] {
         check(&log, limit);
     }
     for log in long_logs(&mut random, 20) {
@@ -78,7 +79,7 @@ fn a_record_of_the_limit_is_listed_and_a_longer_one_skipped() {
         check(&log, limit);
         let lengths = Found::in_log(&log).records;
         let longest = lengths.iter().map(|(_, bytes)| bytes.len()).max();
-        check(&log, longest.unwrap_or(0).min(262_144));
+        check(&log, longest.unwrap_or(0).min(4_194_304));
     }
 }
 
@@ -87,32 +88,25 @@ fn a_limit_above_the_highest_is_refused_with_5() {
     let folder = Folder::new("dump-limit");
     let file = folder.file("times", &example());
     for limit in [
-        "262145",
-        "16777217",
+        "4194305",
+        "1073741825",
         "18446744073709551616",
         "99999999999999999999999",
     ] {
         let ran = run!("dump", "--limit", limit, &file);
         assert_eq!(ran.text(), "X 5\n");
-        ran.complained(2, &["times", "262 144", "5"]);
+        ran.complained(2, &["times", "4 194 304", "5"]);
     }
 }
 
 #[test]
 fn a_log_one_byte_too_long_is_refused_with_1_whatever_the_limit() {
     let folder = Folder::new("dump-long");
-    let mut log = longest_log();
-    let file = folder.file("times", &log);
-    let ran = run!("dump", &file);
-    assert_eq!(ran.done().text(), dumped(&log, 262_144));
-
-    log.push(0);
-    let file = folder.file("times", &log);
-    for limit in ["0", "262144", "262145"] {
+    let file = folder.zeros("times", 1_073_741_825);
+    for limit in ["0", "4194304", "4194305"] {
         let ran = run!("dump", "--limit", limit, &file);
-        assert_eq!(ran.text(), dumped(&log, limit.parse().unwrap()));
         assert_eq!(ran.text(), "X 1\n");
-        ran.complained(2, &["times", "16 777 216", "1"]);
+        ran.complained(2, &["times", "1 073 741 824", "1"]);
     }
 }
 

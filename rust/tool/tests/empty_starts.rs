@@ -237,7 +237,7 @@ fn wherever_they_stand_nothing_is_in_doubt() {
         check(file.to_str().expect("UTF-8"), &log, &lines);
         assert!(lines[1].starts_with(says), "{}", lines[1]);
         let dump = run!("dump", &file);
-        assert_eq!(dump.done().text(), dumped(&log, 262_144));
+        assert_eq!(dump.done().text(), dumped(&log, 4_194_304));
         run!("cat", &file, "1").done();
         // Nor does a record run on where an empty start does.
         let map = run!("map", &file);
@@ -289,7 +289,7 @@ fn what_else_is_in_doubt_stays_so() {
             check(name, &log, &verified.lines());
         }
         let dump = run!("dump", &file);
-        let lines = dumped(&log, 262_144);
+        let lines = dumped(&log, 4_194_304);
         assert_eq!((dump.text(), dump.status), (&*lines, Some(1)));
         assert_eq!(status_of_dump(&lines), 1);
         let map = run!("map", &file);
@@ -373,26 +373,26 @@ fn a_record_that_has_a_byte_is_lost_whatever_interrupts_it() {
 #[test]
 fn a_record_that_is_too_long_after_one_is_in_doubt() {
     let mut log = [first_block(), fragment(FIRST, &[0; BLOCK - HEADER])].concat();
-    for byte in 1..9 {
+    for byte in 1..=128 {
         log.extend(fragment(MIDDLE, &[byte; BLOCK - HEADER]));
     }
     let dump = on(&log, &["dump", "log"]);
-    let over = format!("S 32768 {} 7\nE clean\n", 10 * BLOCK);
+    let over = format!("S 32768 {} 7\nE clean\n", 130 * BLOCK);
     let says = format!("R 0 32761 32754\nS 32761 32768 8\n{over}");
     assert_eq!((dump.text(), dump.status), (&*says, Some(1)));
     let verified = on(&log, &["verify", "log"]);
     let lines = verified.lines();
     check_verdict(&lines[0]["log".len()..], &Found::in_log(&log));
     assert_eq!(lines[1], ONE);
-    assert!(lines[2].starts_with("Gap of 294 912 bytes in blocks 2 to 10, after "));
+    assert!(lines[2].starts_with("Gap of 4 227 072 bytes in blocks 2 to 130, after "));
     assert!(lines[3].ends_with(" (reason 7, over the limit)") && lines[4].is_empty());
     let advice = verified.text().replace('\n', " ");
-    assert!(advice.contains("A record of more than 262 144 bytes may be sound"));
+    assert!(advice.contains("A record of more than 4 194 304 bytes may be sound"));
     assert!(
         !advice.contains("Nothing of the gap is handed out"),
         "{advice}"
     );
-    let cells = " block 1  R D D D D D D D D D";
+    let cells = format!("  block 1  R{}", " D".repeat(31));
     assert_eq!(on(&log, &["map", "log"]).lines()[1], cells);
 
     // By a limit that the user names, with a FULL.

@@ -137,3 +137,39 @@ fn a_list_that_is_longer_than_twenty_is_of_the_file_that_was_judged() {
     assert!(changed.lines()[1].starts_with("2 empty starts, 14 bytes"));
     changed.complained(2, &["log", "changed while it was read"]);
 }
+
+/// Nor is the record read that would be appended.
+#[test]
+fn what_is_too_long_is_refused_before_anything_of_it_is_read() {
+    let folder = Folder::new("faults-long");
+    let Some(library) = faults(&folder) else {
+        return;
+    };
+    let file = folder.zeros("log", 1_073_741_825);
+    for words in [
+        &["verify", "log"][..],
+        &["verify", "--all", "log"],
+        &["dump", "log"],
+        &["dump", "--follow", "log"],
+        &["map", "log"],
+        &["cat", "log", "1"],
+        &["append", "log"],
+        &["mend", "log", "new"],
+    ] {
+        let mut command = tool();
+        command.args(words).current_dir(&*folder);
+        let ran = fed(&mut with(&library, &[("BAD_FROM", "0")], command), b"1");
+        assert_eq!(ran.text(), if words[0] == "dump" { "X 1\n" } else { "" });
+        ran.complained(2, &["log", "longer than 1 073 741 824 bytes", "refusal 1"]);
+        assert!(!ran.err.contains("could not"), "{}", ran.err);
+    }
+    assert_eq!(file.metadata().expect("the file").len(), 1_073_741_825);
+    // A shorter one is read.
+    folder.zeros("log", 1_000);
+    for words in [&["cat", "log", "1"][..], &["append", "log"]] {
+        let mut command = tool();
+        command.args(words).current_dir(&*folder);
+        let ran = fed(&mut with(&library, &[("BAD_FROM", "0")], command), b"1");
+        ran.failed(2, &["log", "could not be read: Input/output error"]);
+    }
+}

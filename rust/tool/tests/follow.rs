@@ -4,7 +4,7 @@
 mod common;
 
 use common::damage::mixed_log;
-use common::expect::{certain, written};
+use common::expect::{blank_blocks, certain, written};
 use common::files::{in_advice, Folder};
 use common::live::{first_line, Live, SIGINT, SIGTERM};
 use common::{finish, tool, Ran};
@@ -51,10 +51,10 @@ fn it_begins_with_what_is_there_and_goes_on() {
     for there in [1_000, 2 * BLOCK - 1, 3 * BLOCK] {
         let file = folder.file("log", &log[..there]);
         let mut live = follow(&file);
-        live.has_written(&certain(&log[..there], 262_144));
+        live.has_written(&certain(&log[..there], 4_194_304));
         live.is_quiet();
         grow(&file, &log[there..]);
-        live.has_written(&certain(&log, 262_144));
+        live.has_written(&certain(&log, 4_194_304));
         live.is_quiet();
         assert_eq!(live.killed(SIGINT), "");
     }
@@ -70,9 +70,9 @@ fn it_takes_a_limit() {
     grow(&file, &log[17..]);
     live.has_written("S 0 17 7\nS 17 34 7\n");
     assert_eq!(live.killed(SIGTERM), "");
-    let ran = run!("dump", "--follow", "--limit", "262145", &file);
+    let ran = run!("dump", "--follow", "--limit", "4194305", &file);
     assert_eq!(ran.text(), "X 5\n");
-    ran.complained(2, &["log", "262 144", "refusal 5"]);
+    ran.complained(2, &["log", "4 194 304", "refusal 5"]);
 }
 
 /// Follows a file until something is done to it, and gives what is said then.
@@ -163,14 +163,16 @@ fn a_file_that_gets_too_long_is_refused_after_what_was_certain() {
     let zeros = File::options().write(true).open(&file).expect("the file");
     zeros.set_len(LONGEST_LOG as u64).expect("a length");
     let mut live = follow(&file);
-    let block = |i: usize| format!("S {} {} 2\n", i * BLOCK, (i + 1) * BLOCK);
-    let lines: String = (0..LONGEST_LOG / BLOCK).map(block).collect();
+    let lines = blank_blocks(0..LONGEST_LOG / BLOCK);
     live.has_written(&lines);
     live.is_quiet();
     grow(&file, b"1");
     let ran = live.ended();
     assert!(ran.text() == lines + "X 1\n");
-    ran.complained(2, &["zeros", "longer than 16 777 216 bytes", "refusal 1"]);
+    ran.complained(
+        2,
+        &["zeros", "longer than 1 073 741 824 bytes", "refusal 1"],
+    );
     ran.warned(&["of its beginning", "nothing after it was judged"]);
 
     // And one that is too long at first, at first.

@@ -4,7 +4,7 @@
 mod common;
 
 use common::damage::{long_logs, mixed_log};
-use common::expect::{certain, dumped, example, written};
+use common::expect::{blank_blocks, certain, dumped, example, written};
 use common::live::{first_line, Live};
 use common::random::Random;
 use common::{fed, finish, tool, Ran};
@@ -50,7 +50,7 @@ fn a_line_comes_with_the_last_byte_that_it_takes() {
     live.in_drops(&log, Live::feed);
     let ran = live.end();
     assert_eq!((ran.status, ran.err.as_str()), (Some(1), ""));
-    assert_eq!(ran.text(), dumped(&log, 262_144));
+    assert_eq!(ran.text(), dumped(&log, 4_194_304));
     assert!(ran.text().ends_with(&format!("E torn {}\n", log.len() - 8)));
 }
 
@@ -69,14 +69,14 @@ fn what_ends_with_its_block_is_told_when_the_block_has_come() {
         log.len(),
     ] {
         live.feed(&log[came..end - 1]);
-        live.has_written(&certain(&log[..end - 1], 262_144));
+        live.has_written(&certain(&log[..end - 1], 4_194_304));
         live.is_quiet();
         live.feed(&log[end - 1..end]);
-        live.has_written(&certain(&log[..end], 262_144));
+        live.has_written(&certain(&log[..end], 4_194_304));
         came = end;
     }
     let ran = live.end();
-    assert_eq!(ran.text(), dumped(&log, 262_144));
+    assert_eq!(ran.text(), dumped(&log, 4_194_304));
     assert!(ran.text().ends_with("E clean\n"), "{}", ran.text());
 }
 
@@ -89,7 +89,7 @@ fn a_piece_of_several_blocks_is_listed_to_its_last_byte() {
     live.has_written("R 0 1007 1000\nR 1007 98298 97270\nR 98304 106311 8000\n");
     live.is_quiet();
     let ran = live.end();
-    assert_eq!(ran.done().text(), dumped(&log, 262_144));
+    assert_eq!(ran.done().text(), dumped(&log, 4_194_304));
 }
 
 #[test]
@@ -113,10 +113,10 @@ fn it_makes_no_difference_how_a_log_is_cut_into_pieces() {
             came = end;
             // Now and then it is seen to have said all that is certain.
             if random.below(10) == 0 {
-                live.has_written(&certain(&log[..came], 262_144));
+                live.has_written(&certain(&log[..came], 4_194_304));
             }
         }
-        assert_eq!(live.end().text(), dumped(&log, 262_144));
+        assert_eq!(live.end().text(), dumped(&log, 4_194_304));
         let (verified, plain) = verified_in_pieces(&log, &mut random);
         assert_eq!(
             (verified.status, verified.text()),
@@ -158,20 +158,19 @@ fn equal_blocks_that_come_in_pieces_are_found() {
 
 #[test]
 fn a_limit_that_is_refused_waits_for_nothing() {
-    let mut live = Live::run(tool().args(["dump", "--limit", "262145", "-"]));
+    let mut live = Live::run(tool().args(["dump", "--limit", "4194305", "-"]));
     let ran = live.ended();
     assert_eq!(ran.text(), "X 5\n");
-    ran.complained(2, &["standard input", "262 144", "refusal 5"]);
+    ran.complained(2, &["standard input", "4 194 304", "refusal 5"]);
 }
 
 /// How long a pipe is shows only when it has come: what was certain by then stands.
 #[test]
 fn a_pipe_that_is_too_long_is_refused_after_what_was_certain() {
-    let log = written(&vec![vec![7; BLOCK - HEADER]; LONGEST_LOG / BLOCK]);
-    assert_eq!(log.len(), LONGEST_LOG);
     let mut live = dump();
-    live.feed(&log);
-    let lines = dumped(&log, 262_144).replace("E clean\n", "");
+    let zeros = vec![0; 1 << 20];
+    (0..LONGEST_LOG / zeros.len()).for_each(|_| live.feed(&zeros));
+    let lines = blank_blocks(0..LONGEST_LOG / BLOCK);
     live.has_written(&lines);
     live.is_quiet();
     live.feed(&[1]);
@@ -182,7 +181,7 @@ fn a_pipe_that_is_too_long_is_refused_after_what_was_certain() {
         2,
         &[
             "standard input",
-            "longer than 16 777 216 bytes",
+            "longer than 1 073 741 824 bytes",
             "refusal 1",
         ],
     );

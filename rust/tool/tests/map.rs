@@ -4,7 +4,7 @@
 mod common;
 
 use common::damage::{dirty_logs, long_logs, mixed_log};
-use common::expect::{count, grouped, longest_log, numbers, without_codes, written, Found};
+use common::expect::{count, grouped, long_log, numbers, without_codes, written, Found};
 use common::files::Folder;
 use common::random::Random;
 use common::report::check_verdict;
@@ -181,8 +181,8 @@ fn several_blocks_are_one_cell_and_a_row_has_32() {
 }
 
 #[test]
-fn the_longest_log_fits_16_rows() {
-    let mut log = longest_log();
+fn a_log_of_512_blocks_fits_16_rows() {
+    let mut log = long_log();
     log[5_000_000] ^= 1;
     log[16_777_215] ^= 1;
     let folder = Folder::new("map-longest");
@@ -240,7 +240,7 @@ fn every_line_of_a_picture_fits_the_terminal() {
     if !is_there() {
         return;
     }
-    for log in [mixed_log(), longest_log()] {
+    for log in [mixed_log(), long_log()] {
         for (columns, words) in [
             (60, &["map", "-"][..]),
             (80, &["map", "-"]),

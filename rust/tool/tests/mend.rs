@@ -86,7 +86,7 @@ fn of_many_damaged_logs_all_that_can_be_read_is_kept_and_each_loss_told() {
         check_said(&ran, &found, &new);
         // The tool itself finds no damage in it.
         let dump = run!("dump", folder.join("new"));
-        assert!(dump.done().text() == dumped(&new, 262_144));
+        assert!(dump.done().text() == dumped(&new, 4_194_304));
     }
 }
 
@@ -230,7 +230,7 @@ const REPLACED: &str = "Nothing of the gap is in the new journal, and nobody can
 const SEVERAL: &str = "Nothing of the gaps is in the new journal";
 const TORN: &str = "The bad journal's end is torn";
 const EXPECTED: &str = "the last record that can be read";
-const LONG: &str = "A record of more than 262 144 bytes may be sound";
+const LONG: &str = "A record of more than 4 194 304 bytes may be sound";
 const WHAT: &str = "is it a journal?";
 const GO_ON: &str = "To go on in the new journal, with the record that you type next:     \
                      mellansko append new";
@@ -244,10 +244,10 @@ fn cases() -> [(Vec<u8>, &'static [&'static str]); 7] {
     let first = fragment(FIRST, &[1; BLOCK - HEADER]);
     let middle = fragment(MIDDLE, &[1; BLOCK - HEADER]);
     let full = fragment(FULL, &[2; BLOCK - HEADER]);
-    let over = [&first[..], &middle.repeat(8)].concat();
+    let over = [&first[..], &middle.repeat(128)].concat();
     let long = [&full[..], &over].concat();
-    // Of 300 000 bytes, and sound, with nothing beside it that can be read.
-    let alone = [&over[..], &fragment(LAST, &[1; 300_000 - 9 * 32_761])].concat();
+    // Of 4 230 000 bytes, and sound, with nothing beside it that can be read.
+    let alone = [&over[..], &fragment(LAST, &[1; 4_230_000 - 129 * 32_761])].concat();
     let then_torn = [&over[..], b"torn"].concat();
     [
         (gap, &[REPLACED, GO_ON]),

@@ -4,8 +4,8 @@
 mod common;
 
 use common::damage::mixed_log;
-use common::expect::{longest_log, mended, written, Found};
-use common::files::{as_nobody, in_advice, left_out, Folder};
+use common::expect::{mended, written, Found};
+use common::files::{as_nobody, left_out, Folder};
 use common::{finish, ran, tool, Ran};
 use std::ffi::OsStr;
 use std::fs::{self, OpenOptions, Permissions};
@@ -240,27 +240,6 @@ fn a_bad_journal_that_can_not_be_read_is_named_with_the_reason() {
         ran.failed(2, &["file: nothing was written", "permission is denied"]);
     }
     assert_eq!(folder.names(), before);
-}
-
-#[test]
-fn the_longest_journal_is_mended_and_one_byte_more_refused() {
-    let folder = Folder::new("mend-longest");
-    let mut log = longest_log();
-    let bad = folder.file("bad", &log);
-    mend(&bad, folder.join("new")).done();
-    assert!(bytes_of(&folder.join("new")) == log);
-    log.push(0);
-    let bad = folder.file("bad", &log);
-    let advice = format!("head -c 16777216 {} | mellansko verify -", in_advice(&bad));
-    mend(&bad, folder.join("other")).failed(
-        2,
-        &[
-            "bad: nothing was written: it is longer than 16 777 216 bytes",
-            "refusal 1",
-            &advice,
-        ],
-    );
-    assert_eq!(folder.names(), ["bad", "new"]);
 }
 
 #[test]

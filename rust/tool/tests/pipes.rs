@@ -20,7 +20,7 @@ fn speakers(folder: &Folder) -> Vec<Command> {
         &["verify", "log"],
         &["verify", "log", "-"],
         &["dump", "log"],
-        &["dump", "--limit", "262145", "log"],
+        &["dump", "--limit", "4194305", "log"],
         &["map", "log"],
         &["cat", "log", "1"],
         &["--help"],
@@ -48,7 +48,7 @@ fn a_closed_output_ends_it_without_a_word() {
         let ran = finish(command.spawn().expect("the tool"), Vec::new());
         assert_eq!(ran.status, Some(2), "{command:?}");
         // What it complained of before, it may still say.
-        let refused = command.get_args().any(|word| word == "262145");
+        let refused = command.get_args().any(|word| word == "4194305");
         assert_eq!(ran.err.is_empty(), !refused, "{command:?}: {}", ran.err);
     }
 }
@@ -114,7 +114,7 @@ fn complainers(folder: &Folder) -> Vec<(Vec<String>, i32)> {
         (words(&["nonsense"]), 2),
         (words(&["verify", &missing]), 2),
         (words(&["verify", &doubtful]), 1),
-        (words(&["dump", "--limit", "262145", &doubtful]), 2),
+        (words(&["dump", "--limit", "4194305", &doubtful]), 2),
         (words(&["cat", &doubtful, "2"]), 1),
         (words(&["append", &doubtful]), 1),
         (words(&["append", &missing]), 2),

@@ -41,7 +41,7 @@ const WORDS: [&[&str]; 27] = [
     &["append", "missing"],
     &["append", "--new", "torn"],
     &["append", "--new", "no/such/folder/log"],
-    &["dump", "--limit", "262145", "clean"],
+    &["dump", "--limit", "4194305", "clean"],
     &["dump", "/dev/zero"],
     &["dump", "--follow", "/dev/null"],
     &["dump", "--follow", "-"],

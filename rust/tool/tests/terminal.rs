@@ -4,12 +4,15 @@
 mod common;
 
 use common::damage::mixed_log;
-use common::expect::{dumped, without_codes, written};
+use common::expect::{count, dumped, numbers, without_codes, written};
 use common::files::{release, Folder};
-use common::terminal::{is_there, shown, terminal, Showing, ERASE};
+use common::preload::{faults, with};
+use common::terminal::{is_there, shown, terminal, terminal_of, without_progress, Showing, ERASE};
 use common::{fed, finish, tool, Ran};
+use reference::log::{fragment, LAST};
 use std::fs::{self, File};
 use std::io::Write;
+use std::path::Path;
 use std::process::{Command, Stdio};
 use std::thread;
 use std::time::Duration;
@@ -113,10 +116,8 @@ fn lines_that_come_meanwhile_are_not_mixed_with_progress() {
     finish(child, Vec::new());
     let showing = showing.all();
     assert!(showing.contains(" read"), "{showing:?}");
-    let last_shown = |row: &str| row.rsplit(ERASE).next().unwrap_or(row).to_string() + "\n";
-    let rows = showing.strip_suffix("\r\n").expect("a last row");
-    let rows: String = rows.split("\r\n").map(last_shown).collect();
-    assert_eq!(rows, dumped(&log, 262_144), "{showing:?}");
+    let rows = without_progress(&showing);
+    assert_eq!(rows, dumped(&log, 4_194_304), "{showing:?}");
 }
 
 #[test]
@@ -153,6 +154,69 @@ fn a_long_name_keeps_progress_on_one_row() {
     assert!(showing.contains("land-: "), "{showing:?}");
     for line in showing.split(ERASE) {
         assert!(line.chars().count() < 60, "{line:?}");
+    }
+}
+
+/// Runs it in a folder on a disk that is slow, and gives what a terminal of 60 columns shows of its
+/// complaints.
+fn on_slow_disk(library: &Path, words: &[&str], folder: &Folder) -> (Ran, String) {
+    let (near, far) = terminal_of(60, 24);
+    let showing = shown(near);
+    let mut command = with(library, &[("SLOW", "40")], tool());
+    command.args(words).current_dir(&**folder);
+    command.stdin(Stdio::null()).stdout(Stdio::piped());
+    let child = command.stderr(far).spawn().expect("the tool");
+    // So that the tool alone holds its end.
+    drop(command);
+    let ran = finish(child, Vec::new());
+    (ran, showing.all())
+}
+
+/// How many bytes of so many had been read, by each line that says so.
+fn read_by(lines: &[&&str], all: usize) -> Vec<usize> {
+    let far = format!(" of {} read", count(all, "byte"));
+    let read = |line: &&&str| line.strip_suffix(&far).map(str::to_string);
+    let figure = |line: String| numbers(line.rsplit(": ").next().expect("figures"))[0];
+    lines.iter().filter_map(read).map(figure).collect()
+}
+
+/// How long a file is is known. Its name is cut so that all of it stays on one row.
+#[test]
+fn of_a_file_it_shows_how_much_of_it_is_read() {
+    let folder = Folder::new("terminal-file");
+    let Some(library) = is_there().then(|| faults(&folder)).flatten() else {
+        return;
+    };
+    let sound = written(&vec![[7; 32_761]; 20]);
+    let orphans = [&sound[..], &fragment(LAST, b"").repeat(25)].concat();
+    let name = "a-name-of-far-more-than-thirty-characters.log";
+    for (words, log, status) in [
+        (&["verify", name][..], &sound, 0),
+        (&["verify", "--all", name], &orphans, 1),
+        (&["dump", name], &sound, 0),
+        (&["map", name], &sound, 0),
+        (&["cat", name, "20"], &sound, 0),
+        (&["append", name], &sound, 0),
+        (&["mend", name, "new"], &sound, 0),
+    ] {
+        folder.file(name, log);
+        let (ran, showing) = on_slow_disk(&library, words, &folder);
+        assert_eq!(ran.status, Some(status), "{words:?}");
+        let lines: Vec<&str> = showing.split(ERASE).collect();
+        let ["", lines @ .., ""] = &lines[..] else {
+            panic!("{words:?}: {showing:?}");
+        };
+        // With --all there are two readings that are shown, and nothing between them.
+        let lines: Vec<&&str> = lines.iter().filter(|line| !line.is_empty()).collect();
+        let read = read_by(&lines, log.len());
+        let readings = 1 + read.windows(2).filter(|two| two[0] > two[1]).count();
+        let expected = if words[1] == "--all" { 2 } else { 1 };
+        assert_eq!((read.len(), readings), (lines.len(), expected), "{lines:?}");
+        assert!(read.iter().all(|&read| read <= log.len()), "{lines:?}");
+        for line in lines {
+            assert!(line.starts_with("...") && line.contains(".log: "), "{line}");
+            assert!(line.chars().count() < 60, "{line}");
+        }
     }
 }
 

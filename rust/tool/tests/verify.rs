@@ -232,16 +232,16 @@ fn the_status_alone_tells_a_log_in_doubt_from_others() {
 #[test]
 fn a_record_that_is_too_long_is_named_with_the_figure() {
     let first = fragment(FIRST, &[1; 32_761]);
-    let long = [first, fragment(MIDDLE, &[1; 32_761]).repeat(8)].concat();
+    let long = [first, fragment(MIDDLE, &[1; 32_761]).repeat(128)].concat();
     let log = [written(&[vec![2; 32_761]]), long].concat();
     let ran = fed(tool().args(["verify", "-"]), &log);
     let lines = ran.lines();
     assert!(lines[0].contains("IN DOUBT"), "{}", lines[0]);
     let why =
-        "a record longer than 262 144 bytes, the most that one may have (reason 7, over the limit)";
+        "a record longer than 4 194 304 bytes, the most that one may have (reason 7, over the limit)";
     assert!(ran.text().contains(why), "{}", ran.text());
     let advice = lines.join(" ");
-    assert!(advice.contains("A record of more than 262 144 bytes may be sound"));
+    assert!(advice.contains("A record of more than 4 194 304 bytes may be sound"));
 }
 
 /// With both on one pipe, as on a terminal.

@@ -2,6 +2,7 @@
 
 mod harmless;
 
+use crate::fed::Fed;
 use crate::gap::Doubt;
 use crate::journal::Source;
 use crate::meaning::of_blocks_filled_up;
@@ -9,43 +10,64 @@ use crate::output::Output;
 use crate::progress::Progress;
 use crate::shell::typed;
 use crate::trouble::{note, Trouble};
+use crate::walk::{Thing, Walk};
 use crate::words::{count, grouped, records, shown};
 use crate::Status;
 use harmless::harmless;
-use mellansko::{Answer, Reading, Reason};
-use std::io::{self, IsTerminal};
+use mellansko::{NotRead, Reason, LONGEST_RECORD};
+use std::io::{self, IsTerminal, Read};
 
 /// The records that can be read are numbered from 1 on.
 pub fn cat(source: &Source, number: usize, output: &mut Output) -> Result<Status, Trouble> {
-    let log = source.read(&mut Progress::new())?;
-    let mut reading = Reading::of(&log).map_err(|refusal| source.refused(refusal))?;
-    let mut found = 0;
-    let mut doubts = Doubts::default();
-    let mut changed = false;
-    while let Some(answer) = reading.advance() {
-        let doubt = Doubt::by(&answer, log.len());
-        if let Answer::Record { bytes: record, .. } = answer {
-            found += 1;
-            if found == number {
-                changed = write(&record, output)?;
-            }
-        }
-        if let Some(range) = doubt {
-            doubts.add(&range, found < number);
-        }
-    }
-    if found < number {
-        return Err(missing(source, number, found, &doubts));
-    }
+    let mut progress = Progress::new();
+    let sought = source
+        .fed(LONGEST_RECORD, &mut progress)
+        .and_then(|fed| Sought::in_journal(fed, number))
+        .map_err(|not_read| source.not_read(not_read))?;
+    drop(progress);
+    let doubts = &sought.doubts;
+    let Some(record) = sought.record else {
+        return Err(missing(source, number, sought.found, doubts));
+    };
+    let changed = write(&record, output)?;
     output.flush()?;
     if changed {
         tell_changed(source, number);
     }
-    if doubts == Doubts::default() {
+    if *doubts == Doubts::default() {
         return Ok(Status::Done);
     }
-    warn(source, number, &doubts);
+    warn(source, number, doubts);
     Ok(Status::Doubt)
+}
+
+/// What a journal has of a record.
+struct Sought {
+    /// Its bytes, if it can be read. They are kept until the journal has been read to its end: of one
+    /// that turns out to be too long, or can't be read, nothing is handed out.
+    record: Option<Vec<u8>>,
+    /// How many records can be read.
+    found: usize,
+    doubts: Doubts,
+}
+
+impl Sought {
+    fn in_journal(fed: Fed<impl Read>, number: usize) -> Result<Sought, NotRead> {
+        let mut walk = Walk::keeping(number, fed);
+        let (mut found, mut doubts) = (0, Doubts::default());
+        while let Some(thing) = walk.next(|_| {})? {
+            match thing {
+                Thing::Record(_) => found += 1,
+                Thing::Doubt(range) => doubts.add(&range, found < number),
+                Thing::EmptyStart(_) => {}
+            }
+        }
+        Ok(Sought {
+            record: walk.kept(),
+            found,
+            doubts,
+        })
+    }
 }
 
 /// What is in doubt.

@@ -13,6 +13,7 @@ use crate::progress::Progress;
 use crate::trouble::Trouble;
 use crate::Status;
 use mellansko::{Answer, NotRead, Refusal, Tail};
+use std::fmt::Write;
 use std::io::Read;
 
 pub fn dump(source: &Source, limit: usize, output: &mut Output) -> Result<Status, Trouble> {
@@ -57,12 +58,14 @@ fn list(fed: &mut Fed<impl Read>, output: &mut Output) -> Result<Listed, Trouble
         ended: false,
     };
     let came = fed.came();
+    // One for all of them: there may be millions.
+    let mut line = String::new();
     while let Some(answer) = fed.certain() {
         listed.ended = matches!(answer, Answer::End(_));
         if Doubt::by(&answer, came).is_some() {
             listed.status = Status::Doubt;
         }
-        let line = line(&answer);
+        put(&answer, &mut line);
         fed.make_way();
         output.line(&line)?;
     }
@@ -70,15 +73,21 @@ fn list(fed: &mut Fed<impl Read>, output: &mut Output) -> Result<Listed, Trouble
     Ok(listed)
 }
 
-fn line(answer: &Answer) -> String {
-    match answer {
+/// Puts an answer into words, in place of the last one.
+fn put(answer: &Answer, line: &mut String) {
+    line.clear();
+    let written = match answer {
         Answer::Record { record, .. } => {
-            format!("R {} {} {}", record.start, record.end, record.length)
+            write!(line, "R {} {} {}", record.start, record.end, record.length)
         }
-        Answer::Skip(skip) => format!("S {} {} {}", skip.start, skip.end, skip.reason.number()),
-        Answer::End(Tail::Clean) => "E clean".into(),
-        Answer::End(Tail::Torn(start)) => format!("E torn {start}"),
-    }
+        Answer::Skip(skip) => {
+            let reason = skip.reason.number();
+            write!(line, "S {} {} {reason}", skip.start, skip.end)
+        }
+        Answer::End(Tail::Clean) => write!(line, "E clean"),
+        Answer::End(Tail::Torn(start)) => write!(line, "E torn {start}"),
+    };
+    written.expect("a text takes all that is written");
 }
 
 /// The last line, for programs, and the message, for people, who get it whatever the output is.

@@ -2,6 +2,7 @@
 
 mod cell;
 
+use crate::gaps::Most;
 use crate::journal::Source;
 use crate::output::Output;
 use crate::page::Page;
@@ -44,7 +45,7 @@ pub fn map(
     let mut progress = Progress::new();
     let survey = source
         .fed(LONGEST_RECORD, &mut progress)
-        .and_then(|fed| Survey::of(Walk::new(fed), 0, |_| {}))
+        .and_then(|fed| Survey::of(Walk::new(fed), Most::NONE, |_| {}))
         .map_err(|not_read| source.not_read(not_read))?;
     drop(progress);
     let mut page = Page::new(Screen::of(&io::stdout()));

@@ -6,9 +6,9 @@ mod allowed;
 mod bad;
 mod file;
 mod name;
+mod room;
 mod told;
 
-use crate::fed::Fed;
 use crate::journal::why_refused;
 use crate::list;
 use crate::output::Output;
@@ -19,7 +19,9 @@ use crate::twins::{Comparing, Twins};
 use crate::walk::Walk;
 use crate::words::{bytes, grouped};
 use crate::Status;
-use mellansko::{Feed, Mended, NotRead, Refusal, LONGEST_RECORD};
+use bad::Bad;
+use mellansko::NotRead;
+use room::Room;
 use std::ffi::OsStr;
 
 /// The two journals by their names.
@@ -46,7 +48,7 @@ pub fn mend(bad: &OsStr, new: &OsStr, output: Output) -> Result<Status, Trouble>
     let bad = bad::open(names)?;
     // Before the journal is read, so that a wrong name shows at once.
     name::make_sure_it_is_free(names)?;
-    let mending = made(names, &bad.read(&mut progress)?)?;
+    let mending = made(names, &bad, &mut progress)?;
     file::store(names, &mending.new, &bad.about)?;
     drop(progress);
     // The new journal is there by now: that nobody hears of it does not change that.
@@ -57,34 +59,32 @@ pub fn mend(bad: &OsStr, new: &OsStr, output: Output) -> Result<Status, Trouble>
 }
 
 /// The new journal in memory. What the reader says is lost has to be what the mender left out.
-fn made<'a>(names: &'a Names, log: &[u8]) -> Result<Mending<'a>, Trouble> {
+fn made<'a>(names: &'a Names, bad: &Bad, progress: &mut Progress) -> Result<Mending<'a>, Trouble> {
     let refused = |refusal| bad::not_mended(names, &why_refused(refusal, names.bad));
-    let (mended, new) = mended(log).map_err(refused)?;
+    let length = bad.length();
+    let lacking = |_| bad::not_mended(names, &room::lacking(length));
+    // Before the journal is read, which may take long.
+    let mut room = Room::for_journal(length).map_err(lacking)?;
     let mut comparing = Comparing::new();
-    let walk = Walk::new(Fed::new(log, names.bad, Feed::new(), None));
-    let survey = Survey::of(walk, list::MOST, |piece| comparing.add(piece));
+    let survey = Survey::of(Walk::new(bad.fed(progress)), list::FIRST, |piece| {
+        comparing.add(piece);
+        room.add(piece);
+    });
     let survey = survey.map_err(|not_read| match not_read {
         NotRead::Io(error) => bad::not_read(names, &error),
         NotRead::Refused(refusal) => refused(refusal),
     })?;
-    if let Some(why) = disagreement(survey.skipped(), mended.skipped) {
+    let made = room.mend().map_err(lacking)?.map_err(refused)?;
+    if let Some(why) = disagreement(survey.skipped(), made.skipped) {
         return Err(bad::not_mended(names, &why));
     }
     Ok(Mending {
         names,
         survey,
         twins: comparing.twins(),
-        same: new == log,
-        new,
+        same: made.same,
+        new: made.new,
     })
-}
-
-/// As the proved call mends it. No mended log is longer than the bad one.
-fn mended(log: &[u8]) -> Result<(Mended, Vec<u8>), Refusal> {
-    let (mut new, mut buffer) = (vec![0; log.len()], vec![0; LONGEST_RECORD]);
-    let mended = mellansko::mend(log, &mut new, LONGEST_RECORD, &mut buffer)?;
-    new.truncate(mended.length);
-    Ok((mended, new))
 }
 
 /// Between how many bytes the reader skips and the mender leaves out. Proved calls have none.

@@ -4,7 +4,7 @@ mod advice;
 mod every;
 
 use crate::journal::Source;
-use crate::list;
+use crate::list::{self, All};
 use crate::output::Output;
 use crate::page::Page;
 use crate::progress::Progress;
@@ -26,6 +26,18 @@ struct Finding<'a> {
     twins: Twins,
     /// Its first bytes.
     beginning: Vec<u8>,
+    wanted: Wanted,
+}
+
+/// Which of its gaps are to be listed.
+#[derive(Clone, Copy, PartialEq, Eq)]
+enum Wanted {
+    /// The first ones alone.
+    First,
+    /// All of them: of a file, what is not kept can be read again.
+    All,
+    /// All that could be kept of what can be read only once, since the answer comes before it.
+    Kept,
 }
 
 /// That, or why it could not be read.
@@ -40,19 +52,22 @@ pub fn verify(sources: &[Source], all: bool, output: &mut Output) -> Result<Stat
     drop(progress);
     let screen = Screen::of(&io::stdout());
     if findings.len() > 1 {
-        return several(&findings, all, screen, output);
+        return several(&findings, screen, output);
     }
     let finding = findings.remove(0)?;
-    alone(&finding, all, screen, output)?;
+    alone(&finding, screen, output)?;
     Ok(finding.survey.status())
 }
 
 fn find<'a>(source: &'a Source, all: bool, progress: &mut Progress) -> Found<'a> {
-    // Of a file, what is not kept can be read again. Of a pipe all that is asked for has to be kept,
-    // since the answer is to come before it.
-    let most = match all && !source.can_be_read_again() {
-        true => usize::MAX,
-        false => list::MOST,
+    let wanted = match all {
+        false => Wanted::First,
+        true if source.can_be_read_again() => Wanted::All,
+        true => Wanted::Kept,
+    };
+    let most = match wanted {
+        Wanted::First | Wanted::All => list::FIRST,
+        Wanted::Kept => list::KEPT,
     };
     let (mut comparing, mut beginning) = (Comparing::new(), Vec::new());
     let survey = source.fed(LONGEST_RECORD, progress).and_then(|fed| {
@@ -67,6 +82,7 @@ fn find<'a>(source: &'a Source, all: bool, progress: &mut Progress) -> Found<'a>
         survey: survey.map_err(|not_read| source.not_read(not_read))?,
         twins: comparing.twins(),
         beginning,
+        wanted,
     })
 }
 
@@ -76,13 +92,15 @@ impl Finding<'_> {
     }
 
     /// Writes the answer, and then what it is about. Gives how many rows that has.
-    fn report(&self, all: bool, screen: Screen, output: &mut Output) -> Result<usize, Trouble> {
+    fn report(&self, screen: Screen, output: &mut Output) -> Result<usize, Trouble> {
         let mut rows = Rows::new(screen, output);
         rows.entry(&self.verdict())?;
         rows.entries(&[self.twins.warning(), self.survey.empty_starts.line()])?;
-        match all && self.survey.gaps.are_hidden() {
-            true => every::gaps(self, &mut rows)?,
-            false => list::gaps(&self.survey.gaps, self.source.word(), &mut rows)?,
+        let (gaps, word) = (&self.survey.gaps, self.source.word());
+        match self.wanted {
+            Wanted::All if gaps.are_hidden() => every::gaps(self, &mut rows)?,
+            Wanted::Kept => list::gaps(gaps, &All::by_way_of_a_file(word), &mut rows)?,
+            _ => list::gaps(gaps, &All::of(word), &mut rows)?,
         }
         Ok(rows.number)
     }
@@ -90,8 +108,8 @@ impl Finding<'_> {
 
 /// All that there is to say of a single journal. If the answer is no longer in sight by then, it
 /// comes again after the list.
-fn alone(finding: &Finding, all: bool, screen: Screen, output: &mut Output) -> Result<(), Trouble> {
-    let rows = finding.report(all, screen, output)?;
+fn alone(finding: &Finding, screen: Screen, output: &mut Output) -> Result<(), Trouble> {
+    let rows = finding.report(screen, output)?;
     let advice = advice::for_one(finding, screen);
     if rows + advice.rows.len() > screen.rows {
         let mut again = Page::new(screen);
@@ -104,19 +122,14 @@ fn alone(finding: &Finding, all: bool, screen: Screen, output: &mut Output) -> R
 
 /// The journals one by one, with the answer for all of them before, and again after what does not
 /// fit a screen.
-fn several(
-    findings: &[Found],
-    all: bool,
-    screen: Screen,
-    output: &mut Output,
-) -> Result<Status, Trouble> {
+fn several(findings: &[Found], screen: Screen, output: &mut Output) -> Result<Status, Trouble> {
     let mut summary = Page::new(screen);
     summary.entry(&in_all(findings));
     output.page(&summary)?;
     let mut rows = summary.rows.len();
     for finding in findings {
         match finding {
-            Ok(finding) => rows += finding.report(all, screen, output)?,
+            Ok(finding) => rows += finding.report(screen, output)?,
             Err(trouble) => {
                 output.flush()?;
                 trouble.tell();

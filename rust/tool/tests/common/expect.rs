@@ -180,7 +180,7 @@ pub fn mended(found: &Found) -> Vec<u8> {
 /// Appends a record as the reference does.
 pub fn add(log: &mut Vec<u8>, record: &[u8]) {
     let used = log.len();
-    let room = used + record.len() + 100;
+    let room = used + record.len() + 1_000;
     log.resize(room.min(LONGEST_LOG), 0);
     let Appended::Mark(mark) = append(log, used, record) else {
         panic!("a record of {} bytes at {used} has no room", record.len());
@@ -193,17 +193,18 @@ pub fn example() -> Vec<u8> {
     written(&[vec![b'A'; 1_000], vec![b'B'; 97_270], vec![b'C'; 8_000]])
 }
 
-/// A log of just the highest length.
-pub fn longest_log() -> Vec<u8> {
+/// A log of 512 blocks.
+pub fn long_log() -> Vec<u8> {
+    const LENGTH: usize = 512 * BLOCK;
     let mut log = Vec::new();
-    let record: Vec<u8> = (0..LONGEST_RECORD).map(|i| (i / 7) as u8).collect();
-    while LONGEST_LOG - log.len() > 300_000 {
+    let record: Vec<u8> = (0..262_144).map(|i| (i / 7) as u8).collect();
+    while LENGTH - log.len() > 300_000 {
         add(&mut log, &record);
     }
-    let headers = 7 * (LONGEST_LOG / BLOCK - log.len() / BLOCK);
-    let rest = LONGEST_LOG - log.len() - headers;
+    let headers = 7 * (LENGTH / BLOCK - log.len() / BLOCK);
+    let rest = LENGTH - log.len() - headers;
     add(&mut log, &record[..rest]);
-    assert_eq!(log.len(), LONGEST_LOG);
+    assert_eq!(log.len(), LENGTH);
     log
 }
 
@@ -264,4 +265,11 @@ pub fn without_codes(text: &str) -> String {
         plain += piece.split_once('m').expect("a code ends with m").1;
     }
     plain
+}
+
+/// What `dump` lists of blocks of zeros.
+pub fn blank_blocks(blocks: Range<usize>) -> String {
+    blocks
+        .map(|i| format!("S {} {} 2\n", i * BLOCK, (i + 1) * BLOCK))
+        .collect()
 }

@@ -9,6 +9,8 @@ use std::io::Write;
 use std::os::fd::AsRawFd;
 use std::os::unix::ffi::OsStrExt;
 use std::process;
+use std::thread;
+use std::time::Duration;
 
 extern "C" {
     fn syscall(number: c_long, ...) -> c_long;
@@ -104,12 +106,22 @@ pub unsafe extern "C" fn flock(fd: c_int, how: c_int) -> c_int {
     syscall(FLOCK, fd, how) as c_int
 }
 
-/// When a file has been read to its end, a byte is added to the one that GROW names, and the first
-/// one of the file that CHANGE names is changed, or as many as CHANGE_TO has. Files give no more
-/// than n bytes in all, and then fail, if BAD_FROM says an n.
+/// Takes a while of so many milliseconds, if SLOW says how many.
+fn dawdle() {
+    if let Some(milliseconds) = number("SLOW") {
+        thread::sleep(Duration::from_millis(milliseconds as u64));
+    }
+}
+
+/// Files are slow, if SLOW is set. When one has been read to its end, a byte is added to the one that
+/// GROW names, and the first one of the file that CHANGE names is changed, or as many as CHANGE_TO
+/// has. Files give no more than n bytes in all, and then fail, if BAD_FROM says an n.
 #[no_mangle]
 pub unsafe extern "C" fn read(fd: c_int, to: *mut c_void, mut most: usize) -> isize {
     static mut GIVEN: usize = 0;
+    if fd > 2 {
+        dawdle();
+    }
     if let (Some(all), 3..) = (number("BAD_FROM"), fd) {
         if GIVEN == all && fails("BAD_FROM", EIO) {
             return -1;

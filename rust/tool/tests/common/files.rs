@@ -33,6 +33,22 @@ impl Folder {
         path
     }
 
+    /// A file of so many zeros, which takes no room on the disk.
+    pub fn zeros(&self, name: impl AsRef<OsStr>, length: u64) -> PathBuf {
+        let path = self.file(name, b"");
+        let file = fs::File::options().write(true).open(&path).expect("a file");
+        file.set_len(length).expect("a length");
+        path
+    }
+
+    fn remove_longest(&self) {
+        for entry in fs::read_dir(&self.0).into_iter().flatten().flatten() {
+            if entry.metadata().is_ok_and(|about| about.len() > 1 << 29) {
+                let _ = fs::remove_file(entry.path());
+            }
+        }
+    }
+
     /// The names of all that is in it.
     pub fn names(&self) -> Vec<String> {
         let entries = fs::read_dir(&self.0).expect("the folder");
@@ -55,8 +71,10 @@ impl Deref for Folder {
 
 impl Drop for Folder {
     fn drop(&mut self) {
-        if !thread::panicking() {
-            let _ = fs::remove_dir_all(&self.0);
+        match thread::panicking() {
+            false => drop(fs::remove_dir_all(&self.0)),
+            // What is left is to be looked at, but for the longest journals: they would fill the disk.
+            true => self.remove_longest(),
         }
     }
 }

@@ -96,8 +96,8 @@ impl Live {
     /// Hands bytes on one after the other, and after each holds what has come to what is certain.
     pub fn in_drops(&mut self, log: &[u8], mut drop: impl FnMut(&mut Live, &[u8])) {
         for came in 1..=log.len() {
-            let before = certain(&log[..came - 1], 262_144);
-            let after = certain(&log[..came], 262_144);
+            let before = certain(&log[..came - 1], 4_194_304);
+            let after = certain(&log[..came], 4_194_304);
             if before != after {
                 self.is_quiet();
             }

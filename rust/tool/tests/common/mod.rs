@@ -7,6 +7,7 @@ pub mod damage;
 pub mod expect;
 pub mod files;
 pub mod live;
+pub mod longest;
 pub mod preload;
 #[path = "../../../mellansko/tests/random/mod.rs"]
 pub mod random;
@@ -24,7 +25,19 @@ const PATIENCE: Duration = Duration::from_secs(100);
 
 /// The tool under its plain name, with nothing on standard input and no wishes as to looks.
 pub fn tool() -> Command {
-    let mut command = Command::new(env!("CARGO_BIN_EXE_mellansko"));
+    plain(Command::new(env!("CARGO_BIN_EXE_mellansko")))
+}
+
+/// The same, with no more than so many MiB of memory in all: its own program and the system's
+/// libraries count, and so does what is not resident.
+pub fn tool_within(mebibytes: usize) -> Command {
+    let mut shell = Command::new("sh");
+    let script = format!("ulimit -v {} && exec \"$0\" \"$@\"", mebibytes << 10);
+    shell.args(["-c", &script, env!("CARGO_BIN_EXE_mellansko")]);
+    plain(shell)
+}
+
+fn plain(mut command: Command) -> Command {
     command.env("MELLANSKO", "mellansko");
     command.env_remove("NO_COLOR").env_remove("COLUMNS");
     command.stdin(Stdio::null());

@@ -71,21 +71,17 @@ pub fn ran_on(size: (u16, u16), command: &mut Command, input: &[u8]) -> (Option<
     // So that the program alone holds its end.
     command.stdout(Stdio::null()).stderr(Stdio::null());
     let ran = finish(child, input.to_vec());
-    (
-        ran.status,
-        without_progress(&showing.all()).replace("\r\n", "\n"),
-    )
+    (ran.status, without_progress(&showing.all()))
 }
 
 /// What erases a line that shows how far the tool is.
 pub const ERASE: &str = "\r\x1b[K";
 
-/// What is left on the screen: before the first such line, and after the last.
-fn without_progress(text: &str) -> String {
-    match (text.split_once(ERASE), text.rsplit_once(ERASE)) {
-        (Some((before, _)), Some((_, after))) => format!("{before}{after}"),
-        _ => text.into(),
-    }
+/// What is left on the screen: of each row, what came after it was last erased.
+pub fn without_progress(text: &str) -> String {
+    let left = |row: &'_ str| row.rsplit(ERASE).next().unwrap_or(row).to_string();
+    let rows: Vec<String> = text.split("\r\n").map(left).collect();
+    rows.join("\n")
 }
 
 fn open(name: &str) -> File {

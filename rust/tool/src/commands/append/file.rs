@@ -1,12 +1,11 @@
 //! The file that a record is appended to: looked for, locked, and made longer.
 
 use crate::disk::{folder_of, outlive_a_limit, sync_folder_of};
-use crate::journal;
-use crate::progress::Progress;
+use crate::journal::{refuse_too_long, why_refused};
 use crate::shell::typed;
 use crate::trouble::{in_words, Trouble};
 use crate::words::{grouped, shown};
-use mellansko::LONGEST_LOG;
+use mellansko::{NotRead, Refusal};
 use std::ffi::OsStr;
 use std::fs::{self, File, OpenOptions, TryLockError};
 use std::io::{self, Write};
@@ -22,6 +21,10 @@ pub fn found(path: &OsStr, new: bool) -> Result<Option<File>, Trouble> {
 
 pub fn nothing_appended(path: &OsStr, why: &str) -> Trouble {
     Trouble::of(path, &format!("nothing was appended: {why}"))
+}
+
+pub fn refused(path: &OsStr, refusal: Refusal) -> Trouble {
+    nothing_appended(path, &why_refused(refusal, path))
 }
 
 /// Makes sure that there is no such file yet, and a folder for it.
@@ -75,7 +78,13 @@ fn existing(path: &OsStr) -> Result<File, Trouble> {
         return Err(nothing_appended(path, "it is not a plain file"));
     }
     let file = OpenOptions::new().read(true).append(true).open(path);
-    file.map_err(trouble)
+    let file = file.map_err(trouble)?;
+    // Before anything of it is read, and before a record is typed for it.
+    refuse_too_long(&file).map_err(|not_read| match not_read {
+        NotRead::Io(error) => trouble(error),
+        NotRead::Refused(refusal) => refused(path, refusal),
+    })?;
+    Ok(file)
 }
 
 /// Keeps every other append off the file until this one ends.
@@ -90,14 +99,9 @@ fn lock(file: &File, path: &OsStr) -> Result<(), Trouble> {
     }
 }
 
-/// What the file holds at this moment.
-pub fn held(file: &File, path: &OsStr) -> Result<Vec<u8>, Trouble> {
-    let log = journal::read(file, path, LONGEST_LOG, &mut Progress::new());
-    log.map_err(|error| Trouble::io(path, "be read", &error))
-}
-
-/// What the file holds, which no other append changes until this one ends.
-pub fn taken(file: &File, path: &OsStr) -> Result<Vec<u8>, Trouble> {
+/// Keeps the file, which still has its name, from being changed by another append until this one
+/// ends.
+pub fn hold(file: &File, path: &OsStr) -> Result<(), Trouble> {
     lock(file, path)?;
     let trouble = |error: io::Error| Trouble::io(path, "be read", &error);
     let named = fs::metadata(path).map_err(trouble)?;
@@ -106,7 +110,7 @@ pub fn taken(file: &File, path: &OsStr) -> Result<Vec<u8>, Trouble> {
         let why = "another file has its name by now. Try again";
         return Err(nothing_appended(path, why));
     }
-    held(file, path)
+    Ok(())
 }
 
 /// Puts the added bytes after those that the file has; it gets all of them or none.

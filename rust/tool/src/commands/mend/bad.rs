@@ -1,10 +1,11 @@
 //! The bad journal, which is only read.
 
 use super::Names;
+use crate::fed::Fed;
 use crate::journal::{self, why_refused};
 use crate::progress::Progress;
 use crate::trouble::{in_words, Trouble};
-use mellansko::{NotRead, LONGEST_LOG};
+use mellansko::{Feed, NotRead};
 use std::fs::{self, File, Metadata, TryLockError};
 use std::io;
 
@@ -59,10 +60,14 @@ fn lock(file: &File, names: &Names) -> Result<(), Trouble> {
 }
 
 impl Bad<'_> {
-    /// All of it; of one that got too long meanwhile, one byte more than a journal may have, at
-    /// which the proved calls refuse it.
-    pub fn read(&self, progress: &mut Progress) -> Result<Vec<u8>, Trouble> {
-        let log = journal::read(&self.file, self.names.bad, LONGEST_LOG, progress);
-        log.map_err(|error| not_read(self.names, &error))
+    /// How many bytes it had when it was opened.
+    pub fn length(&self) -> usize {
+        self.about.len() as usize
+    }
+
+    /// It from its first byte on. One that got too long meanwhile is refused by the proved reader.
+    pub fn fed<'a>(&'a self, progress: &'a mut Progress) -> Fed<'a, &'a File> {
+        progress.begin(Some(self.length()));
+        Fed::new(&self.file, self.names.bad, Feed::new(), Some(progress))
     }
 }

@@ -1,7 +1,7 @@
 //! What is said of the new journal: what was kept, and what was lost.
 
 use super::{Mending, Names};
-use crate::list;
+use crate::list::{self, All};
 use crate::meaning;
 use crate::output::Output;
 use crate::page::Page;
@@ -25,7 +25,7 @@ pub fn tell(mending: &Mending, mut output: Output) -> Result<(), Trouble> {
     let starts = survey.empty_starts.line();
     let starts = starts.map(|line| format!("{line} The new journal has none."));
     rows.entries(&[mending.twins.warning(), starts])?;
-    list::gaps(&survey.gaps, mending.names.bad, &mut rows)?;
+    list::gaps(&survey.gaps, &All::of(mending.names.bad), &mut rows)?;
     let (rows, advice) = (rows.number, advice(mending, screen));
     if rows + advice.rows.len() > screen.rows {
         let mut again = Page::new(screen);

@@ -8,8 +8,9 @@ use super::Finding;
 use crate::empty_starts::EmptyStarts;
 use crate::fed::Fed;
 use crate::gap::{Doubt, Gap, Place};
-use crate::gaps::Gaps;
+use crate::gaps::{Gaps, Most};
 use crate::list::entry;
+use crate::progress::Progress;
 use crate::rows::Rows;
 use crate::trouble::Trouble;
 use crate::walk::{Thing, Walk};
@@ -19,20 +20,22 @@ use std::io::{Read, Take};
 
 pub fn gaps(finding: &Finding, rows: &mut Rows) -> Result<(), Trouble> {
     let not_read = |why| finding.source.not_read(why);
-    let mut ahead = again(finding).map_err(not_read)?;
+    let mut progress = Progress::beside_output();
+    progress.begin(Some(finding.survey.length));
+    let mut ahead = again(finding, Some(&mut progress)).map_err(not_read)?;
     let mut listing = Listing {
-        after: again(finding).map_err(not_read)?,
+        after: again(finding, None).map_err(not_read)?,
         finding,
         rows,
     };
-    let (mut all, mut empty_starts) = (Gaps::new(0), EmptyStarts::default());
+    let (mut all, mut empty_starts) = (Gaps::new(Most::NONE), EmptyStarts::default());
     let (mut open, mut last): (Option<Gap>, _) = (None, None);
     while let Some(thing) = ahead.next(|_| {}).map_err(not_read)? {
         match thing {
             Thing::Doubt(range) => {
                 all.add(last, range);
                 let gap = open.get_or_insert_with(|| Gap::new(last, &range));
-                gap.add(range, 0);
+                gap.add(range, false);
             }
             Thing::Record(place) => {
                 all.close(place);
@@ -56,10 +59,13 @@ type Again<'a> = Walk<'a, Take<File>>;
 
 /// The file from its first byte on, as far as it was read before: what has been added since is no
 /// part of the answer.
-fn again<'a>(finding: &'a Finding) -> Result<Again<'a>, NotRead> {
+fn again<'a>(
+    finding: &'a Finding,
+    progress: Option<&'a mut Progress>,
+) -> Result<Again<'a>, NotRead> {
     let word = finding.source.word();
     let file = File::open(word)?.take(finding.survey.length as u64);
-    Ok(Walk::new(Fed::new(file, word, Feed::new(), None)))
+    Ok(Walk::new(Fed::new(file, word, Feed::new(), progress)))
 }
 
 /// What the answer says is no longer there.
