@@ -1,15 +1,14 @@
 //! This program as the other one that is asked (other.rs). It answers as bench/leveldb.cc does, with
 //! the calls of the archive that it was linked with.
 
-use crate::logs::{proved_append, proved_next, LENGTHS, LOG};
+use crate::logs::{proved_append, proved_next, LENGTHS, LIMIT, LOG};
 use crate::sample::Sample;
 use crate::turns::timed;
-use mellansko::LONGEST_RECORD;
 use std::io::{stdin, stdout, Write};
 use std::time::Duration;
 
 pub fn give() {
-    let (mut log, mut buffer) = (vec![0; LOG], vec![0; LONGEST_RECORD]);
+    let (mut log, mut buffer) = (vec![0; LOG], vec![0; LIMIT]);
     let mut sample = Sample::new(LENGTHS[0], LOG);
     for line in stdin().lines() {
         let line = line.expect("a question");

@@ -4,11 +4,14 @@
 use crate::other::Other;
 use crate::sample::Sample;
 use crate::turns::{best, rate, timed, Way};
-use reference::log::{Appended, Next, LONGEST_RECORD};
+use reference::log::{Appended, Next};
 use std::hint::black_box;
 
 /// How long the records are.
 pub const LENGTHS: [usize; 4] = [100, 1 << 10, 8 << 10, 100 << 10];
+
+/// The limit on a record's length, which archives from before longer ones were taken do not refuse.
+pub const LIMIT: usize = 256 << 10;
 
 /// How long the logs are.
 pub const LOG: usize = 15 << 20;
@@ -18,7 +21,7 @@ pub const ROUNDS: usize = 11;
 /// The new mark, if the append was accepted.
 type Append = fn(log: &mut [u8], mark: usize, record: &[u8]) -> Option<usize>;
 
-/// The place to go on from, if the answer was a record.
+/// The place to go on from, if the answer was a record. The limit is the buffer's length.
 type Read = fn(log: &[u8], place: usize, buffer: &mut [u8]) -> Option<usize>;
 
 pub fn print(others: &mut [Other]) {
@@ -61,7 +64,7 @@ impl Sample {
 
     fn reading(&self) -> Vec<Way<'_>> {
         let way = |next: Read| -> Way {
-            let mut buffer = vec![0; LONGEST_RECORD];
+            let mut buffer = vec![0; LIMIT];
             Box::new(timed(move || self.read(&mut buffer, next)))
         };
         vec![way(proved_next), way(reference_next), self.summing()]
@@ -121,14 +124,14 @@ fn reference_append(log: &mut [u8], mark: usize, record: &[u8]) -> Option<usize>
 }
 
 pub fn proved_next(log: &[u8], place: usize, buffer: &mut [u8]) -> Option<usize> {
-    match mellansko::next(log, place, LONGEST_RECORD, buffer) {
+    match mellansko::next(log, place, buffer.len(), buffer) {
         Ok((mellansko::Next::Record(_), end)) => Some(end),
         _ => None,
     }
 }
 
 fn reference_next(log: &[u8], place: usize, buffer: &mut [u8]) -> Option<usize> {
-    match reference::log::next(log, place, LONGEST_RECORD, buffer) {
+    match reference::log::next(log, place, buffer.len(), buffer) {
         Next::Record { end, .. } => Some(end),
         _ => None,
     }

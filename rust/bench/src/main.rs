@@ -7,6 +7,7 @@ mod checksums;
 mod damaged;
 mod fed;
 mod logs;
+mod long;
 mod mend;
 mod other;
 mod sample;
@@ -20,13 +21,14 @@ use std::env::args;
 type Part = (&'static str, fn(&mut [Other]));
 
 /// In the order in which they are printed.
-const PARTS: [Part; 6] = [
+const PARTS: [Part; 7] = [
     ("checksums", |_| checksums::print()),
     ("logs", logs::print),
     ("types", |_| types::print()),
     ("fed", |_| fed::print()),
     ("damaged", |_| damaged::print()),
     ("mend", |_| mend::print()),
+    ("long", |_| long::print()),
 ];
 
 /// The arguments: `--leveldb` and the program made of bench/leveldb.cc, `--before` and this program
