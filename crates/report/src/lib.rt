@@ -106,7 +106,7 @@ pub fn append_made(log: &mut LogArray, n: usize, mark: usize, record: &RecordArr
     requires { do ⌜ bytes ≤ (← ⟦Length::RECORD⟧) ⌝ }
 {
     let whole = &record[..];
-    call::append(log, n, mark, &whole[0..bytes]);
+    append_bytes(log, n, mark, &whole[0..bytes]);
 }
 
 // Reads the next thing, with the log's first n bytes and the buffer's first m lent.

@@ -24,7 +24,7 @@ pub struct Survey {
     pub torn: Option<usize>,
     /// What is skipped, and not in doubt.
     pub empty_starts: EmptyStarts,
-    /// What is in each block. A journal has at most 32,768 blocks, or it is refused.
+    /// What is in each block. They are few: a journal that is too long is refused.
     pub marks: Vec<Mark>,
 }
 

@@ -15,8 +15,8 @@ pub struct Twins {
     first: Option<(usize, usize)>,
 }
 
-/// Finds them while a journal comes. It holds one block, and a digest of each before it, of which
-/// there are at most 32,768: a longer journal is refused.
+/// Finds them while a journal comes. It holds one block, and a digest of each before it, which are
+/// few: a journal that is too long is refused.
 ///
 /// A digest has 128 bits, under keys that are drawn anew for each run. So nobody can make blocks
 /// that differ and pass for equal, and that two happen to is out of reach. What came over a pipe

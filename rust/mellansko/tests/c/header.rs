@@ -6,23 +6,24 @@ use crate::folder::{
 use crate::{reason_text, refusal_text};
 use mellansko::{Condition, Reason};
 
-#[test]
-fn it_says_what_the_calls_do() {
-    let folder = Folder::new("header");
-    let source = root().join("rust/mellansko/tests/c/header.c");
+/// Runs a program that prints the lines of it that do not hold.
+fn all_holds(name: &str) {
+    let folder = Folder::new(name);
+    let source = root().join(format!("rust/mellansko/tests/c/{name}.c"));
     for way in folder.there(&[C, CLANG, SANITIZED]) {
         assert_eq!(folder.run(way, &source), "", "{way:?}");
     }
 }
 
+#[test]
+fn it_says_what_the_calls_do() {
+    all_holds("header");
+}
+
 /// So many bytes are accepted, and not one more.
 #[test]
 fn its_figures_are_those_of_the_calls() {
-    let folder = Folder::new("figures");
-    let source = root().join("rust/mellansko/tests/c/figures.c");
-    for way in folder.there(&[C, CLANG, SANITIZED]) {
-        assert_eq!(folder.run(way, &source), "", "{way:?}");
-    }
+    all_holds("figures");
 }
 
 /// The lines that it shows are among those that the test above runs.
