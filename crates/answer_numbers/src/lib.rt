@@ -53,10 +53,23 @@ fn handed(record: Record) -> [u64; 10]
     let start = record.start as u64;
     let end = record.end as u64;
     let length = record.length as u64;
+    let fragments = record.fragments as u64;
+    let last = record.last as u64;
     let stored = record.stored;
     match stored {
-        Stored::Whole(place) => [0, start, end, length, 0, place as u64, end, 0, 0, 0],
-        Stored::Gathered => [0, start, end, length, 1, 0, end, 0, 0, 0],
+        Stored::Whole(place) => [
+            0,
+            start,
+            end,
+            length,
+            0,
+            place as u64,
+            end,
+            fragments,
+            last,
+            0,
+        ],
+        Stored::Gathered => [0, start, end, length, 1, 0, end, fragments, last, 0],
     }
 }
 

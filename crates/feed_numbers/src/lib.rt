@@ -1,14 +1,11 @@
 // docs/FORMAT.md, §11.14: a fed reader's state and answers as ten numbers. feed_format's specs/Format/Numbers.antt says which.
 ghost use mathlib.Core.Path.{_≡_};
-ghost use Prim.Native.Nat.{_≤_};
-ghost use lib.ListN.{length};
 ghost use Rattle.feed_format.specs.Format.Numbers as numbers;
 use feed_format::Began;
 use feed_format::Feed;
 use feed_format::Told;
 use feed_format::Took;
 
-// The last two words are left for later, and not looked at.
 pub fn state_in(state: &[u64; 10]) -> Feed
     ensures { λ r. ⌜ r ≡ numbers.feedIn (now (state .entry)) ⌝ }
 {
@@ -21,31 +18,34 @@ pub fn state_in(state: &[u64; 10]) -> Feed
         start: state[5] as usize,
         length: state[6] as usize,
         bad: state[7] as usize,
+        fragments: state[8] as usize,
+        last: state[9] as usize,
     }
 }
 
-// The last two words stay. They are lent as a slice: of a lent array no proof learns how long it is.
-pub fn state_out(feed: Feed, state: &mut [u64])
-    requires { ⌜ 8 ≤ length (now state) ⌝ }
-    ensures { λ _. ⌜ now (state .exit) ≡ numbers.stateAfter (now (state .entry)) feed ⌝ }
+pub fn state_out(feed: Feed) -> [u64; 10]
+    ensures { λ r. ⌜ r ≡ numbers.feedNumbers feed ⌝ }
 {
-    state[0] = feed.limit as u64;
-    state[1] = feed.place as u64;
-    state[2] = feed.came as u64;
-    state[3] = feed.over as u64;
-    state[4] = feed.opened as u64;
-    state[5] = feed.start as u64;
-    state[6] = feed.length as u64;
-    state[7] = feed.bad as u64;
+    [
+        feed.limit as u64,
+        feed.place as u64,
+        feed.came as u64,
+        feed.over as u64,
+        feed.opened as u64,
+        feed.start as u64,
+        feed.length as u64,
+        feed.bad as u64,
+        feed.fragments as u64,
+        feed.last as u64,
+    ]
 }
 
-// The last two words are 0 from the beginning on. A refusal changes none.
+// A refusal changes none.
 pub fn state_begun(began: Began, state: &mut [u64; 10])
     ensures { λ _. ⌜ now (state .exit) ≡ numbers.stateBegun (now (state .entry)) began ⌝ }
 {
     if let Began::Feed(feed) = began {
-        *state = [0; 10];
-        state_out(feed, state);
+        *state = state_out(feed);
     }
 }
 

@@ -3,7 +3,7 @@ ghost use mathlib.Core.Path.{_≡_};
 ghost use Rattle.log_format.specs.Format.Fragment.{firstEdition};
 ghost use Rattle.log_format.specs.Format.Numbers.{kindIn};
 ghost use Rattle.feed_format.specs.Format.Calls.{beginOf, takeOf, endOf, drawOf};
-ghost use Rattle.feed_format.specs.Format.Numbers.{beganNumbers, feedIn, stateAfter, stateBegun, toldNumbers, tookNumbers};
+ghost use Rattle.feed_format.specs.Format.Numbers.{beganNumbers, feedIn, feedNumbers, stateBegun, toldNumbers, tookNumbers};
 use feed_numbers::state_in;
 use feed_numbers::state_out;
 use log_layout::Block;
@@ -34,11 +34,11 @@ pub extern "C" fn mellansko_feed_take(
 ) -> u64
     ensures { λ r. ⌜ r ≡ kindIn (tookNumbers (takeOf firstEdition (feedIn (now (state .entry))) (now (block .entry)) (now (piece .entry)) .took)) ⌝ }
     ensures { λ _. ⌜ now (answer .exit) ≡ tookNumbers (takeOf firstEdition (feedIn (now (state .entry))) (now (block .entry)) (now (piece .entry)) .took) ⌝ }
-    ensures { λ _. ⌜ now (state .exit) ≡ stateAfter (now (state .entry)) (takeOf firstEdition (feedIn (now (state .entry))) (now (block .entry)) (now (piece .entry)) .feed) ⌝ }
+    ensures { λ _. ⌜ now (state .exit) ≡ feedNumbers (takeOf firstEdition (feedIn (now (state .entry))) (now (block .entry)) (now (piece .entry)) .feed) ⌝ }
     ensures { λ _. ⌜ now (block .exit) ≡ takeOf firstEdition (feedIn (now (state .entry))) (now (block .entry)) (now (piece .entry)) .lent ⌝ }
 {
     let taken = feed_take::take(state_in(state), block, piece);
-    state_out(taken.feed, state);
+    *state = state_out(taken.feed);
     let took = taken.took;
     let numbers = feed_numbers::took(took);
     *answer = numbers;
@@ -47,9 +47,9 @@ pub extern "C" fn mellansko_feed_take(
 
 #[no_mangle]
 pub extern "C" fn mellansko_feed_end(state: &mut [u64; 10])
-    ensures { λ _. ⌜ now (state .exit) ≡ stateAfter (now (state .entry)) (endOf firstEdition (feedIn (now (state .entry)))) ⌝ }
+    ensures { λ _. ⌜ now (state .exit) ≡ feedNumbers (endOf firstEdition (feedIn (now (state .entry)))) ⌝ }
 {
-    state_out(feed_state::end(state_in(state)), state);
+    *state = state_out(feed_state::end(state_in(state)));
 }
 
 #[no_mangle]
@@ -61,12 +61,12 @@ pub extern "C" fn mellansko_feed_next(
 ) -> u64
     ensures { λ r. ⌜ r ≡ kindIn (toldNumbers (feedIn (now (state .entry)) .came) (drawOf firstEdition (feedIn (now (state .entry))) (now (block .entry)) (now (buffer .entry)) .told)) ⌝ }
     ensures { λ _. ⌜ now (answer .exit) ≡ toldNumbers (feedIn (now (state .entry)) .came) (drawOf firstEdition (feedIn (now (state .entry))) (now (block .entry)) (now (buffer .entry)) .told) ⌝ }
-    ensures { λ _. ⌜ now (state .exit) ≡ stateAfter (now (state .entry)) (drawOf firstEdition (feedIn (now (state .entry))) (now (block .entry)) (now (buffer .entry)) .feed) ⌝ }
+    ensures { λ _. ⌜ now (state .exit) ≡ feedNumbers (drawOf firstEdition (feedIn (now (state .entry))) (now (block .entry)) (now (buffer .entry)) .feed) ⌝ }
     ensures { λ _. ⌜ now (buffer .exit) ≡ drawOf firstEdition (feedIn (now (state .entry))) (now (block .entry)) (now (buffer .entry)) .buffer ⌝ }
 {
     let feed = state_in(state);
     let drawn = feed_next::next(feed, block, buffer);
-    state_out(drawn.feed, state);
+    *state = state_out(drawn.feed);
     let told = drawn.told;
     let numbers = feed_numbers::told(feed.came, told);
     *answer = numbers;

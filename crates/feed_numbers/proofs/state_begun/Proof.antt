@@ -17,8 +17,8 @@ enum-told c = search needs
 
 returns : tie.Need-returns
 returns c =
-    let state = now (c .before .before .before .before .before .before .args .state) in
-    c .state-out .ensures ∙ sym (ap (stateBegun state) (c .before .before .before .before .began .given .1))
+    let state = now (c .before .before .before .before .args .state) in
+    c .state-out .ensures ∙ sym (ap (stateBegun state) (c .before .before .began .given .1))
 
 returns-2 : tie.Need-returns-2
 returns-2 c = search needs

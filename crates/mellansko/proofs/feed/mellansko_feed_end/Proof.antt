@@ -1,10 +1,9 @@
 -- The state after the end, as numbers. Assumes nothing.
 use mathlib.Core.Path.{ap, _∙_}
-use denote.Ref.{now}
 use borrow.Author.Needs.{needs}
 use Rattle.log_format.specs.Format.Fragment.{firstEdition}
 use Rattle.feed_format.specs.Format.Calls.{endOf}
-use Rattle.feed_format.specs.Format.Numbers.{stateAfter}
+use Rattle.feed_format.specs.Format.Numbers.{feedNumbers}
 use Rattle.mellansko.proofs.feed.mellansko_feed_end.Statement.{statement}
 use Rattle.mellansko.proofs.feed.mellansko_feed_end.Tie as tie
 
@@ -19,10 +18,9 @@ state-out-requires c κs = search needs
 
 returns : tie.Need-returns
 returns c =
-    let end = c .before .before in
-    let state = now (end .before .before .before .args .state) in
+    let end = c .before in
     let ended = end .end .ensures ∙ ap (endOf firstEdition) (end .before .state-in .ensures) in
-    c .state-out .ensures ∙ ap (stateAfter state) ended
+    c .state-out .ensures ∙ ap feedNumbers ended
 
 pub mellansko-feed-end-spec : {M : Type 1} → statement M
 mellansko-feed-end-spec =

@@ -6,7 +6,7 @@ use Rattle.log_format.specs.Format.Fragment.{firstEdition}
 use Rattle.log_format.specs.Format.Numbers.{kindIn}
 use Rattle.feed_format.specs.declared.Feed.{Feed}
 use Rattle.feed_format.specs.Format.Calls.{Drawing, drawOf}
-use Rattle.feed_format.specs.Format.Numbers.{feedIn, stateAfter, toldNumbers}
+use Rattle.feed_format.specs.Format.Numbers.{feedIn, feedNumbers, toldNumbers}
 use Rattle.mellansko.proofs.feed.mellansko_feed_next.Statement.{statement}
 use Rattle.mellansko.proofs.feed.mellansko_feed_next.Tie as tie
 
@@ -30,7 +30,7 @@ same-length c = search needs
 
 returns : tie.Need-returns
 returns c =
-    let next = c .before .before .before .before .before in
+    let next = c .before .before .before .before in
     let a = next .before .before .before .before .before .args in
     let given = next .before .before .state-in .ensures in
     let drawing = ap (λ (f : Feed). drawOf firstEdition f (now (a .block)) (now (a .buffer))) given in
@@ -39,7 +39,7 @@ returns c =
     let buffer = next .next .ensures .1 .1 ∙ ap (λ (d : Drawing). d .buffer) drawing in
     let came = ap (λ (f : Feed). toldNumbers (f .came) (next .next .result .told)) given in
     let answer = c .told .ensures ∙ came ∙ ap (toldNumbers (feedIn (now (a .state)) .came)) told in
-    (ap kindIn answer, (answer, (c .before .state-out .ensures ∙ ap (stateAfter (now (a .state))) feed, buffer)))
+    (ap kindIn answer, (answer, (c .before .state-out .ensures ∙ ap feedNumbers feed, buffer)))
 
 pub mellansko-feed-next-spec : {M : Type 1} → statement M
 mellansko-feed-next-spec =

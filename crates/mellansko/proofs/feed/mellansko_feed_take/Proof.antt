@@ -6,7 +6,7 @@ use Rattle.log_format.specs.Format.Fragment.{firstEdition}
 use Rattle.log_format.specs.Format.Numbers.{kindIn}
 use Rattle.feed_format.specs.declared.Feed.{Feed}
 use Rattle.feed_format.specs.Format.Calls.{Taking, takeOf}
-use Rattle.feed_format.specs.Format.Numbers.{stateAfter, tookNumbers}
+use Rattle.feed_format.specs.Format.Numbers.{feedNumbers, tookNumbers}
 use Rattle.mellansko.proofs.feed.mellansko_feed_take.Statement.{statement}
 use Rattle.mellansko.proofs.feed.mellansko_feed_take.Tie as tie
 
@@ -27,14 +27,14 @@ array-read-result c = search needs
 
 returns : tie.Need-returns
 returns c =
-    let take = c .before .before .before in
+    let take = c .before .before in
     let a = take .before .before .before .before .before .args in
     let taking = ap (λ (f : Feed). takeOf firstEdition f (now (a .block)) (now (a .piece))) (take .before .before .state-in .ensures) in
     let took = take .take .ensures .0 ∙ ap (λ (t : Taking). t .took) taking in
     let feed = take .take .ensures .1 .0 ∙ ap (λ (t : Taking). t .feed) taking in
     let lent = take .take .ensures .1 .1 ∙ ap (λ (t : Taking). t .lent) taking in
     let answer = c .took .ensures ∙ ap tookNumbers took in
-    (ap kindIn answer, (answer, (c .before .state-out .ensures ∙ ap (stateAfter (now (a .state))) feed, lent)))
+    (ap kindIn answer, (answer, (c .before .state-out .ensures ∙ ap feedNumbers feed, lent)))
 
 pub mellansko-feed-take-spec : {M : Type 1} → statement M
 mellansko-feed-take-spec =
