@@ -58,6 +58,8 @@ fn handed(record: Record, bytes: &[u8]) {
         Stored::Whole(place) => number(b" whole ", place),
         Stored::Gathered => text(b" gathered"),
     }
+    number(b" fragments ", record.fragments);
+    number(b" last ", record.last);
     sum(b"", bytes);
 }
 

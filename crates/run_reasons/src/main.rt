@@ -1,5 +1,5 @@
-// Runs over the reasons for a skip, 1 to 8, with the limits at 7, and over the asking for bytes. Each place is written out,
-// so that a step can be checked by hand.
+// Runs over the reasons for a skip, 1 to 8, with the limits at 7, over the asking for bytes, and over the fragments of a record
+// that interrupts another. Each place is written out, so that a step can be checked by hand.
 use by_hand::fragment;
 use log_layout::Fragment;
 use report::BufferArray;
@@ -20,6 +20,7 @@ fn main() {
     empty_interrupted(&mut log, &mut record, &mut buffer);
     over_the_limit(&mut log, &mut record, &mut buffer);
     bytes_asked_for(&mut log, &mut record, &mut buffer);
+    counted_anew(&mut log, &mut record, &mut buffer);
 }
 
 fn bad_length(log: &mut LogArray, record: &mut RecordArray, buffer: &mut BufferArray) {
@@ -174,4 +175,19 @@ fn bytes_asked_for(log: &mut LogArray, record: &mut RecordArray, buffer: &mut Bu
     report::bytes(log, 0, buffer, 20, gathered);
     report::bytes(log, 68, buffer, 19, gathered);
     report::sums(log, 68, buffer);
+}
+
+// §16.2: the record that is handed out has none of the fragments of the one before it.
+fn counted_anew(log: &mut LogArray, record: &mut RecordArray, buffer: &mut BufferArray) {
+    report::scenario(
+        b"an interrupted record takes its fragments with it",
+        log,
+        buffer,
+    );
+    fragment(log, 0, Fragment::FIRST, record, 1, 5);
+    fragment(log, 12, Fragment::MIDDLE, record, 2, 3);
+    fragment(log, 22, Fragment::FIRST, record, 3, 4);
+    fragment(log, 33, Fragment::LAST, record, 4, 2);
+    report::read(log, 42, 100, buffer);
+    report::sums(log, 42, buffer);
 }
