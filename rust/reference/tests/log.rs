@@ -125,8 +125,8 @@ fn the_longest_record_and_the_longest_log() {
 #[test]
 fn the_table_of_two_rows() {
     let torn = Next::End(Tail::Torn(0));
-    let whole = record(0, 10, 3, Stored::Whole(7));
-    let gathered = record(0, 19, 5, Stored::Gathered);
+    let whole = record(0, 10, 3, Stored::Whole(7), (1, 0));
+    let gathered = record(0, 19, 5, Stored::Gathered, (2, 9));
     let rows = [
         (1, whole, skip(0, 9, 4)),
         (2, torn, skip(0, 9, 4)),
@@ -169,7 +169,7 @@ fn after_an_empty_first() {
     for middles in 0..3 {
         let empty = [fragment(2, &[]), fragment(3, &[]).repeat(middles)].concat();
         let (end, all) = (empty.len(), empty.len() + 10);
-        let gathered = record(0, all, 3, Stored::Gathered);
+        let gathered = record(0, all, 3, Stored::Gathered, (middles + 2, end));
         let rows = [
             (1, skip(0, end, 8), skip(0, end, 8)),
             (2, skip(0, end, 8), skip(0, end, 8)),
@@ -237,9 +237,9 @@ fn example() -> (Vec<u8>, [Vec<u8>; 3]) {
 /// The records' lines in the document's list, with the bytes that are then asked for.
 fn handed(records: &[Vec<u8>; 3]) -> [(Next, Vec<u8>); 3] {
     let lines = [
-        record(0, 1_007, 1_000, Stored::Whole(7)),
-        record(1_007, 98_298, 97_270, Stored::Gathered),
-        record(98_304, 106_311, 8_000, Stored::Whole(98_311)),
+        record(0, 1_007, 1_000, Stored::Whole(7), (1, 0)),
+        record(1_007, 98_298, 97_270, Stored::Gathered, (3, 65_536)),
+        record(98_304, 106_311, 8_000, Stored::Whole(98_311), (1, 98_304)),
     ];
     [0, 1, 2].map(|i| (lines[i], records[i].clone()))
 }

@@ -7,7 +7,7 @@ use std::array;
 /// The state, if it is begun, and the answer.
 pub fn begin_words(limit: u64) -> (Option<[u64; 10]>, [u64; 10]) {
     match begin(limit) {
-        Ok(state) => (Some(put(&state, &[0; 10])), words(&[0])),
+        Ok(state) => (Some(put(&state)), words(&[0])),
         Err(number) => (None, words(&[1, u64::from(number), 0])),
     }
 }
@@ -15,7 +15,7 @@ pub fn begin_words(limit: u64) -> (Option<[u64; 10]>, [u64; 10]) {
 pub fn take_words(state: &mut [u64; 10], block: &mut Block, piece: &[u8]) -> [u64; 10] {
     let mut numbers = got(state);
     let answer = take(&mut numbers, block, piece);
-    *state = put(&numbers, state);
+    *state = put(&numbers);
     match answer {
         Ok(taken) => words(&[0, taken as u64]),
         Err(number) => words(&[1, u64::from(number), 0]),
@@ -26,13 +26,13 @@ pub fn take_words(state: &mut [u64; 10], block: &mut Block, piece: &[u8]) -> [u6
 pub fn end_words(state: &mut [u64; 10]) {
     let mut numbers = got(state);
     end(&mut numbers);
-    *state = put(&numbers, state);
+    *state = put(&numbers);
 }
 
 pub fn next_words(state: &mut [u64; 10], block: &Block, buffer: &mut [u8]) -> [u64; 10] {
     let mut numbers = got(state);
     let told = next(&mut numbers, block, buffer);
-    *state = put(&numbers, state);
+    *state = put(&numbers);
     words_of_told(told, numbers.came)
 }
 
@@ -53,9 +53,11 @@ fn of_answer(answer: Next, came: usize) -> [usize; 10] {
             end,
             length,
             stored,
+            fragments,
+            last_header,
         } => {
             assert_eq!(stored, Stored::Gathered, "§11.10");
-            [0, start, end, length, 1, 0, end, 0, 0, 0]
+            [0, start, end, length, 1, 0, end, fragments, last_header, 0]
         }
         Next::Skip { start, end, reason } => [1, start, end, reason.into(), 0, 0, end, 0, 0, 0],
         Next::End(Tail::Clean) => [2, 0, 0, 0, 0, 0, came, 0, 0, 0],
@@ -69,9 +71,9 @@ fn words(named: &[u64]) -> [u64; 10] {
     array::from_fn(|i| named.get(i).copied().unwrap_or(0))
 }
 
-/// The eight numbers. The last two words are not read.
+/// The ten numbers, in the order of §11.2.
 fn got(words: &[u64; 10]) -> State {
-    let [limit, place, came, over, opened, start, length, bad, ..] = *words;
+    let [limit, place, came, over, opened, start, length, bad, fragments, last_header] = *words;
     State {
         limit,
         place,
@@ -81,23 +83,23 @@ fn got(words: &[u64; 10]) -> State {
         start,
         length,
         bad,
+        fragments,
+        last_header,
     }
 }
 
-/// The eight numbers, and the last two words as they were.
-fn put(state: &State, before: &[u64; 10]) -> [u64; 10] {
-    let State {
-        limit,
-        place,
-        came,
-        over,
-        opened,
-        start,
-        length,
-        bad,
-    } = *state;
-    let [.., first, second] = *before;
+/// The same, the other way round.
+fn put(state: &State) -> [u64; 10] {
     [
-        limit, place, came, over, opened, start, length, bad, first, second,
+        state.limit,
+        state.place,
+        state.came,
+        state.over,
+        state.opened,
+        state.start,
+        state.length,
+        state.bad,
+        state.fragments,
+        state.last_header,
     ]
 }

@@ -163,12 +163,15 @@ fn answer_line(answer: Next, crc: u32) -> String {
             end,
             length,
             stored,
+            fragments,
+            last_header,
         } => {
             let stored = match stored {
                 Stored::Whole(place) => format!("whole {place}"),
                 Stored::Gathered => "gathered".to_string(),
             };
-            format!("record {start} {end} {length} {stored} crc32c {crc:08x}")
+            let how = format!("{stored} fragments {fragments} last {last_header}");
+            format!("record {start} {end} {length} {how} crc32c {crc:08x}")
         }
         Next::Skip { start, end, reason } => format!("skip {start} {end} {reason}"),
         Next::End(Tail::Clean) => "end clean".to_string(),

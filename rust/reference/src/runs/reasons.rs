@@ -1,6 +1,6 @@
-//! Runs over the reasons for a skip, 1 to 8, with the limits at 7, and over the asking for
-//! bytes. Reason 9 has a listing of its own, `trailers`. Each place is written out, so that a step
-//! can be checked by hand.
+//! Runs over the reasons for a skip, 1 to 8, with the limits at 7, over the asking for bytes, and
+//! over what is counted of a record after an interrupted one. Reason 9 has a listing of its own,
+//! `trailers`. Each place is written out, so that a step can be checked by hand.
 
 use super::Run;
 use crate::log::{FIRST, FULL, LAST, MIDDLE};
@@ -17,6 +17,7 @@ pub fn listing() -> String {
     empty_interrupted(&mut run);
     over_the_limit(&mut run);
     bytes_asked_for(&mut run);
+    interrupted_with_its_fragments(&mut run);
     run.lines
 }
 
@@ -144,4 +145,15 @@ fn bytes_asked_for(run: &mut Run) {
     run.bytes(0, 20, gathered);
     run.bytes(68, 19, gathered);
     run.sums(68);
+}
+
+/// What is answered after the interrupted one has two fragments of its own, and not four (§16.2).
+fn interrupted_with_its_fragments(run: &mut Run) {
+    run.scenario("an interrupted record takes its fragments with it");
+    run.fragment(0, FIRST, 1, 5);
+    run.fragment(12, MIDDLE, 2, 3);
+    run.fragment(22, FIRST, 3, 4);
+    run.fragment(33, LAST, 4, 2);
+    run.read(42, 100);
+    run.sums(42);
 }

@@ -155,6 +155,7 @@ impl<'a> Fed<'a> {
         match answer {
             Next::End(_) => return,
             Next::Record { start, length, .. } => {
+                self.check_how_stored(&answer);
                 let mut buffer = vec![0; length];
                 let record = next(self.log, start, length, &mut buffer);
                 let bytes = record_bytes(self.log, &buffer, &record);
@@ -172,6 +173,25 @@ impl<'a> Fed<'a> {
         );
     }
 
+    /// A record has the two numbers of the fragments that were accepted in its span (§16.7).
+    fn check_how_stored(&self, answer: &Next) {
+        let Next::Record {
+            start,
+            end,
+            fragments,
+            last_header,
+            ..
+        } = *answer
+        else {
+            panic!("{answer:?} is no record");
+        };
+        let inside = |accepted: &&Accepted| (start..end).contains(&accepted.span.start);
+        let inside: Vec<&Accepted> = self.accepted.iter().filter(inside).collect();
+        let last = inside.last().map(|last| last.span.start);
+        let how = (fragments, Some(last_header));
+        assert_eq!(how, (inside.len(), last), "{}, {answer:?}", self.seed);
+    }
+
     /// The fragments that the place has passed are in the buffer now, one after the other.
     fn put_accepted(&mut self) {
         while let Some(passed) = self.accepted.get(self.put) {
@@ -184,19 +204,25 @@ impl<'a> Fed<'a> {
         }
     }
 
-    /// What is open is what was accepted since the last answer.
+    /// What is open is what was accepted since the last answer (§16.7 for the last two numbers).
     fn check_open(&self) {
         let open = self.open();
-        let start = open.first().map_or(0, |first| first.span.start) as u64;
-        let length: usize = open.iter().map(Accepted::length).sum();
-        let due = (u64::from(!open.is_empty()), start, length as u64);
-        let State {
-            opened,
-            start,
-            length,
-            ..
-        } = self.state;
-        assert_eq!((opened, start, length), due, "{}", self.seed);
+        let place = |accepted: Option<&Accepted>| accepted.map_or(0, |one| one.span.start);
+        let due = [
+            usize::from(!open.is_empty()),
+            place(open.first()),
+            open.iter().map(Accepted::length).sum(),
+            open.len(),
+            place(open.last()),
+        ];
+        let state = [
+            self.state.opened,
+            self.state.start,
+            self.state.length,
+            self.state.fragments,
+            self.state.last_header,
+        ];
+        assert_eq!(state, due.map(|number| number as u64), "{}", self.seed);
     }
 
     /// With nothing more certain, and at the end: the place is where the open fragments or the last

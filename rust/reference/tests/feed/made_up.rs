@@ -32,6 +32,8 @@ const NONE: State = State {
     start: 0,
     length: 0,
     bad: 0,
+    fragments: 0,
+    last_header: 0,
 };
 
 /// The list of §11.3, each line at its edge and one past it.
@@ -62,20 +64,30 @@ fn that_fit_with_nothing_open() {
             (|s| s.over = u64::MAX, false),
             (|s| s.start = 1, false),
             (|s| s.length = 1, false),
+            (|s| s.fragments = 1, false),
+            (|s| s.fragments = u64::MAX, false),
+            (|s| s.last_header = 1, false),
+            (|s| s.last_header = u64::MAX, false),
+            // As if a record were open.
+            (|s| (s.fragments, s.last_header) = (1, 3), false),
         ],
     );
 }
 
+/// A state with a record open, of which all that comes before the place is one fragment.
+const OPEN: State = State {
+    opened: 1,
+    start: 3,
+    length: 40,
+    fragments: 1,
+    last_header: 3,
+    ..NONE
+};
+
 #[test]
 fn that_fit_with_a_record_open() {
-    let open = State {
-        opened: 1,
-        start: 3,
-        length: 40,
-        ..NONE
-    };
     judged(
-        open,
+        OPEN,
         &[
             (|_| {}, true),
             (|s| s.opened = 2, false),
@@ -83,14 +95,77 @@ fn that_fit_with_a_record_open() {
             (|s| s.limit = 40, true),
             (|s| s.limit = 39, false),
             (|s| s.start = 0, true),
-            (|s| s.start = 4, false),
-            (|s| s.start = u64::MAX, false),
+            (|s| (s.start, s.last_header) = (4, 4), false),
+            (|s| (s.start, s.last_header) = (u64::MAX, 3), false),
             (|s| s.start = u64::MAX - 46, false),
+            (|s| s.length = 39, true),
             (|s| s.length = 41, false),
-            (|s| (s.start, s.length) = (43, 0), true),
-            (|s| (s.start, s.length) = (44, 0), false),
+            (|s| (s.start, s.length, s.last_header) = (43, 0, 43), true),
+            (|s| (s.start, s.length, s.last_header) = (44, 0, 44), false),
             (|s| s.length = u64::MAX, false),
             (|s| s.bad = 1, false),
+        ],
+    );
+}
+
+/// It has a fragment at least, and there is room for a header of each of them.
+#[test]
+fn that_fit_by_their_fragments() {
+    judged(
+        OPEN,
+        &[
+            (|s| s.fragments = 0, false),
+            (|s| (s.fragments, s.length) = (0, 0), false),
+            (|s| s.fragments = 2, false),
+            (|s| (s.fragments, s.length) = (2, 33), true),
+            (|s| (s.fragments, s.length) = (2, 34), false),
+            (|s| (s.fragments, s.length) = (6, 5), true),
+            (|s| (s.fragments, s.length) = (6, 6), false),
+            (|s| (s.fragments, s.length) = (7, 0), false),
+            (|s| (s.fragments, s.length, s.start) = (7, 0, 1), true),
+            (|s| (s.fragments, s.length, s.start) = (7, 1, 1), false),
+            (|s| (s.fragments, s.length, s.start) = (7, 1, 0), true),
+            // Seven times this is 5 if 64 bits are kept, and then it would fit.
+            (|s| s.fragments = u64::MAX / 7 + 1, false),
+            (|s| s.fragments = u64::MAX / 7, false),
+            (|s| s.fragments = u64::MAX, false),
+        ],
+    );
+}
+
+/// The last header is at the start or after it, and there is room for it before the place. Nothing
+/// else is asked of it: with one fragment, it may be elsewhere than at the start.
+#[test]
+fn that_fit_by_their_last_header() {
+    judged(
+        OPEN,
+        &[
+            (|s| s.last_header = 0, false),
+            (|s| s.last_header = 2, false),
+            (|s| s.last_header = 4, true),
+            (|s| s.last_header = 43, true),
+            (|s| s.last_header = 44, false),
+            (|s| s.last_header = 50, false),
+            // With 7 more it is 0 if 64 bits are kept.
+            (|s| s.last_header = u64::MAX - 6, false),
+            (|s| s.last_header = u64::MAX, false),
+            (|s| (s.length, s.start, s.last_header) = (0, 43, 42), false),
+            (|s| (s.length, s.start, s.last_header) = (0, 43, 43), true),
+            (|s| (s.length, s.start, s.last_header) = (0, 43, 44), false),
+            (|s| (s.start, s.last_header) = (0, 0), true),
+            // In an earlier block than the place, and the place right after it.
+            (
+                |s| (s.place, s.came, s.last_header) = (2 * BLOCK64, 2 * BLOCK64, 3),
+                true,
+            ),
+            (
+                |s| (s.place, s.came, s.last_header) = (2 * BLOCK64, 2 * BLOCK64, 2 * BLOCK64 - 7),
+                true,
+            ),
+            (
+                |s| (s.place, s.came, s.last_header) = (2 * BLOCK64, 2 * BLOCK64, 2 * BLOCK64 - 6),
+                false,
+            ),
         ],
     );
 }
@@ -114,13 +189,9 @@ fn that_fit_with_a_bad_fragment() {
     );
 }
 
-/// Any numbers at all: calls are refused if and only if they do not fit together, and then change
-/// nothing; else a state comes of them that fits.
-#[test]
-fn of_any_numbers() {
-    let random = &mut Random::new();
-    println!("{random}");
-    let numbers = [0, 1, 2, 3, 7, 8, 40, BLOCK64 - 1, BLOCK64, LOG64];
+/// A number: high, an edge, or below `most`.
+fn number(random: &mut Random, most: usize) -> u64 {
+    let edges = [0, 1, 2, 3, 7, 8, 40, BLOCK64 - 1, BLOCK64, LOG64];
     let high = [
         BLOCK64 + 1,
         4_194_305,
@@ -129,34 +200,88 @@ fn of_any_numbers() {
         u64::MAX - 7,
         u64::MAX,
     ];
-    let mut block: Box<Block> = random.bytes(BLOCK).try_into().expect("a block");
-    let mut fitting = 0;
-    for _ in 0..100_000 {
-        let mut number = |most| match random.below(12) {
-            0 => make::pick(random, &high),
-            1..=5 => make::pick(random, &numbers),
-            _ => random.below(most) as u64,
-        };
-        let place = number(2);
-        let before = State {
-            limit: number(100),
-            place,
-            came: place.wrapping_add(number(20)),
-            over: number(2),
-            opened: number(2),
-            start: number(1),
-            length: number(1),
-            bad: number(1),
-        };
-        fitting += usize::from(any_calls(&before, &mut block));
+    match random.below(20) {
+        0 => make::pick(random, &high),
+        1..=4 => make::pick(random, &edges),
+        _ => random.below(most) as u64,
     }
-    assert!(fitting > 1_000, "{fitting} of them fit");
+}
+
+/// Any numbers as a state. The low ones are as they go with nothing open or with a record open.
+fn any_state(random: &mut Random) -> State {
+    let mut number = |most| number(random, most);
+    let opened = number(2);
+    let low = |if_open| if opened == 1 { if_open } else { 1 };
+    let place = number(low(40));
+    State {
+        limit: number(100),
+        place,
+        came: place.wrapping_add(number(20)),
+        over: number(2),
+        opened,
+        start: number(low(5)),
+        length: number(low(9)),
+        bad: number(1),
+        fragments: number(low(4)),
+        last_header: number(low(30)),
+    }
+}
+
+/// Any numbers at all: calls are refused if and only if they do not fit together, and then change
+/// nothing; else a state comes of them that fits.
+#[test]
+fn of_any_numbers() {
+    let random = &mut Random::new();
+    println!("{random}");
+    let mut block: Box<Block> = random.bytes(BLOCK).try_into().expect("a block");
+    // With nothing open, and with a record open.
+    let mut fitting = [0; 2];
+    for _ in 0..100_000 {
+        let before = any_state(random);
+        if any_calls(&before, &mut block) {
+            fitting[before.opened as usize] += 1;
+        }
+    }
+    println!("{fitting:?} of them fit");
+    let [none, open] = fitting;
+    assert!(none > 1_000 && open > 1_000, "{fitting:?} of them fit");
+}
+
+/// The list of §11.3 by differences, of which none may be below 0.
+fn fits_by_differences(state: &State) -> bool {
+    let wide = i128::from;
+    let (place, came, bad) = (wide(state.place), wide(state.came), wide(state.bad));
+    let (start, length) = (wide(state.start), wide(state.length));
+    let (fragments, last_header) = (wide(state.fragments), wide(state.last_header));
+    let block_end = place - place % wide(BLOCK64) + wide(BLOCK64);
+    let always = [
+        4_194_304 - wide(state.limit),
+        1_073_741_824 - came,
+        came - place,
+        block_end - came,
+        1 - wide(state.over),
+        1 - wide(state.opened),
+        3 - bad,
+        if bad > 0 { came - place - 7 } else { 0 },
+    ];
+    let open = [
+        wide(state.limit) - length,
+        fragments - 1,
+        place - start - 7 * fragments - length,
+        last_header - start,
+        place - last_header - 7,
+        -bad,
+    ];
+    let none = [-start, -length, -fragments, -last_header];
+    let record = if state.opened == 0 { &none[..] } else { &open };
+    always.iter().chain(record).all(|left| *left >= 0)
 }
 
 /// Each call once; whether the numbers fit.
 fn any_calls(before: &State, block: &mut Block) -> bool {
     let [mut fed, mut ended, mut drawn] = [*before; 3];
     let fitting = fits(before);
+    assert_eq!(fitting, fits_by_differences(before), "{before:?}");
     let taken = take(&mut fed, block, &[7]);
     end(&mut ended);
     let told = next(&mut drawn, block, &mut [0; 100]);
@@ -207,13 +332,26 @@ fn made(random: &mut Random) -> Made {
     if o >= HEADER + length && random.below(2) == 0 {
         state.opened = 1;
         state.length = length as u64;
-        state.start = random.below(base + o - HEADER - length + 1) as u64;
+        let start = random.below(base + o - HEADER - length + 1);
+        state.start = start as u64;
+        how_stored(random, &mut state);
     }
     Made {
         state,
         block: bytes.try_into().expect("a block"),
         buffer: random.bytes(80),
     }
+}
+
+/// Gives an open record any numbers that fit of how it was stored: few fragments or many, and the
+/// last header anywhere.
+fn how_stored(random: &mut Random, state: &mut State) {
+    let most = (state.place - state.start - state.length) / HEADER as u64;
+    let any = 1 + random.below(most as usize) as u64;
+    state.fragments = make::pick(random, &[1, any, most]);
+    let room = state.place - HEADER as u64 - state.start;
+    let any = random.below(room as usize + 1) as u64;
+    state.last_header = state.start + make::pick(random, &[0, any, room]);
 }
 
 /// The block as far as it has come, as a log of its own. What is open is in it as a FIRST that ends
@@ -265,11 +403,20 @@ fn moved(answer: Next, from: usize, state: &State) -> Next {
             end,
             length,
             stored,
+            fragments,
+            last_header,
         } => Next::Record {
             start: shift(start),
             end: base + end,
             length,
             stored,
+            // What is open stands as one fragment in the block's own log, and has as many as the
+            // state says (§16.7). The last one is read by the call.
+            fragments: match state.opened {
+                1 if start == from => state.fragments as usize + fragments - 1,
+                _ => fragments,
+            },
+            last_header: base + last_header,
         },
         Next::Skip { start, end, reason } => Next::Skip {
             start: shift(start),
@@ -313,6 +460,18 @@ fn that_fit_are_answered() {
     assert!(kinds.iter().all(|kind| *kind > 100), "{kinds:?}");
 }
 
+/// The same state with nothing open.
+fn closed(state: State) -> State {
+    State {
+        opened: 0,
+        start: 0,
+        length: 0,
+        fragments: 0,
+        last_header: 0,
+        ..state
+    }
+}
+
 /// State and buffer after the call, by the block's own log and the answer that is due.
 fn after(made: &Made, log: &[u8], from: usize, due: Option<Next>) -> (State, Vec<u8>) {
     let answer = first_answer(log, from, made.state.limit);
@@ -329,6 +488,8 @@ fn after(made: &Made, log: &[u8], from: usize, due: Option<Next>) -> (State, Vec
             }
             state.opened = 1;
             state.length += fragment.length() as u64;
+            state.fragments += 1;
+            state.last_header = base + fragment.span.start as u64;
             place = fragment.span.end;
         }
     }
@@ -341,10 +502,7 @@ fn after(made: &Made, log: &[u8], from: usize, due: Option<Next>) -> (State, Vec
         (Some(Next::Record { end, .. } | Next::Skip { end, .. }), _) => {
             state = State {
                 place: base + end as u64,
-                opened: 0,
-                start: 0,
-                length: 0,
-                ..state
+                ..closed(state)
             };
         }
         // A dirty trailer waits as well, but is not remembered (§11.9).
@@ -368,11 +526,8 @@ fn that_remember_a_bad_fragment() {
         }
         let reason = 1 + random.below(3) as u8;
         made.state = State {
-            opened: 0,
-            start: 0,
-            length: 0,
             bad: u64::from(reason),
-            ..made.state
+            ..closed(made.state)
         };
         let (before, buffer) = (made.state, made.buffer.clone());
         let told = next(&mut made.state, &made.block, &mut made.buffer);

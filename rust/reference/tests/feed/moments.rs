@@ -110,6 +110,8 @@ fn of_trailers_by_definition() {
         end: BLOCK - 3,
         length: BLOCK - 10,
         stored: Stored::Gathered,
+        fragments: 1,
+        last_header: 0,
     };
     let skip = |start, end, reason| Next::Skip { start, end, reason };
     let interrupted = skip(0, BLOCK - 3, 4);

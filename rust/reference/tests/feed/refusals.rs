@@ -30,6 +30,18 @@ fn at(came: u64) -> State {
     }
 }
 
+/// Two misfits: one of the numbers of how a record is stored, though none is open.
+fn stored_with_nothing_open(state: State) -> [State; 2] {
+    let (fragments, last_header) = (1, 1);
+    [
+        State { fragments, ..state },
+        State {
+            last_header,
+            ..state
+        },
+    ]
+}
+
 /// Takes, and sees that a refusal changes nothing.
 fn taken(state: &State, piece: &[u8]) -> Result<usize, u8> {
     let random = &mut Random::new();
@@ -51,7 +63,8 @@ fn of_take() {
     let near = at(most - 10);
     let ten = [7; 10];
     let eleven = [7; 11];
-    let rows: [(State, &[u8], Result<usize, u8>); 18] = [
+    let [fragments, last_header] = stored_with_nothing_open(at(0));
+    let rows: [(State, &[u8], Result<usize, u8>); 20] = [
         (near, &ten, Ok(10)),
         (near, &eleven, Err(1)),
         (at(most), &[], Ok(0)),
@@ -66,6 +79,8 @@ fn of_take() {
         (over(at(most)), &[], Err(20)),
         (misfit(at(0)), &[], Err(2)),
         (State { over: 2, ..at(0) }, &[], Err(2)),
+        (fragments, &[], Err(2)),
+        (last_header, &[], Err(2)),
         (at(most + 1), &[], Err(1)),
         (at(u64::MAX), &[], Err(1)),
         (at(u64::MAX), &ten, Err(1)),
@@ -101,6 +116,7 @@ fn of_next() {
         length: 1,
         ..at(50)
     };
+    let [fragments, last_header] = stored_with_nothing_open(at(50));
     let at_limit = |limit| State { limit, ..at(50) };
     let (highest, high) = (at_limit(4_194_304), at_limit(4_194_305));
     let rows = [
@@ -110,6 +126,8 @@ fn of_next() {
         (at(50), 0, Told::Refused(6)),
         (misfit, 100, Told::Refused(2)),
         (misfit, 99, Told::Refused(2)),
+        (fragments, 100, Told::Refused(2)),
+        (last_header, 100, Told::Refused(2)),
         (highest, 4_194_304, Told::NotYet),
         (highest, 4_194_303, Told::Refused(6)),
         (high, 4_194_305, Told::Refused(2)),
@@ -152,9 +170,14 @@ fn after_the_end() {
 /// A state that does not fit together is left alone by the end.
 #[test]
 fn of_an_end_that_does_nothing() {
+    let [fragments, last_header] = stored_with_nothing_open(at(9));
     for misfit in [
+        fragments,
+        last_header,
         State { bad: 4, ..at(9) },
         State { start: 1, ..at(9) },
+        // Open, and of no fragment.
+        State { opened: 1, ..at(9) },
         State { over: 2, ..at(9) },
         State { place: 10, ..at(9) },
         State {

@@ -4,7 +4,7 @@ use crate::make;
 use crate::random::Random;
 use reference::feed::{begin, begin_words, end, end_words, next, next_words, take, take_words};
 use reference::feed::{words_of_told, State, Told};
-use reference::log::{fragment, BLOCK, FIRST, FULL, LONGEST_LOG};
+use reference::log::{fragment, BLOCK, FIRST, FULL, LAST, LONGEST_LOG, MIDDLE};
 
 #[test]
 fn of_begin() {
@@ -14,24 +14,25 @@ fn of_begin() {
     assert_eq!(begin_words(4_194_305), (None, refused));
 }
 
-/// A FULL, a FIRST that nothing follows, and the end. The last two words are anything.
+/// A FULL, a FIRST that nothing follows, and the end. The last two words are the open record's
+/// fragments and last header (§11.14).
 #[test]
 fn of_a_reading() {
     let log = [fragment(FULL, &[7; 5]), fragment(FIRST, &[8; 2])].concat();
     let (mut block, mut buffer) = ([0; BLOCK], [0; 9]);
-    let mut state = [9, 0, 0, 0, 0, 0, 0, 0, 77, u64::MAX];
+    let mut state = begin_words(9).0.expect("begun");
     let taken = take_words(&mut state, &mut block, &log);
     assert_eq!(taken, [0, 21, 0, 0, 0, 0, 0, 0, 0, 0]);
-    assert_eq!(state, [9, 0, 21, 0, 0, 0, 0, 0, 77, u64::MAX]);
+    assert_eq!(state, [9, 0, 21, 0, 0, 0, 0, 0, 0, 0]);
     let record = next_words(&mut state, &block, &mut buffer);
-    assert_eq!(record, [0, 0, 12, 5, 1, 0, 12, 0, 0, 0]);
-    assert_eq!(state, [9, 12, 21, 0, 0, 0, 0, 0, 77, u64::MAX]);
+    assert_eq!(record, [0, 0, 12, 5, 1, 0, 12, 1, 0, 0]);
+    assert_eq!(state, [9, 12, 21, 0, 0, 0, 0, 0, 0, 0]);
     let not_yet = next_words(&mut state, &block, &mut buffer);
     assert_eq!(not_yet, [4, 0, 0, 0, 0, 0, 0, 0, 0, 0]);
-    assert_eq!(state, [9, 21, 21, 0, 1, 12, 2, 0, 77, u64::MAX]);
+    assert_eq!(state, [9, 21, 21, 0, 1, 12, 2, 0, 1, 12]);
     assert_eq!(buffer, [8, 8, 7, 7, 7, 0, 0, 0, 0]);
     end_words(&mut state);
-    assert_eq!(state, [9, 21, 21, 1, 1, 12, 2, 0, 77, u64::MAX]);
+    assert_eq!(state, [9, 21, 21, 1, 1, 12, 2, 0, 1, 12]);
     let torn = next_words(&mut state, &block, &mut buffer);
     assert_eq!(torn, [2, 1, 12, 0, 0, 0, 12, 0, 0, 0]);
     let after = take_words(&mut state, &mut block, &[]);
@@ -41,7 +42,43 @@ fn of_a_reading() {
     state[7] = 3;
     let misfit = next_words(&mut state, &block, &mut buffer);
     assert_eq!(misfit, [3, 2, 0, 0, 0, 0, 0, 0, 0, 0]);
-    assert_eq!(state, [9, 21, 21, 1, 1, 12, 2, 3, 77, u64::MAX]);
+    assert_eq!(state, [9, 21, 21, 1, 1, 12, 2, 3, 1, 12]);
+}
+
+/// A record of three fragments, one word of the state after the other; and the words of the answer.
+#[test]
+fn of_a_record_in_fragments() {
+    let parts = [(FIRST, 2), (MIDDLE, 0), (LAST, 3)];
+    let parts = parts.map(|(kind, data)| fragment(kind, &vec![7; data]));
+    let (mut block, mut buffer) = ([0; BLOCK], [0; 9]);
+    let mut state = begin_words(9).0.expect("begun");
+    let mut fed = |part: &[u8]| {
+        take_words(&mut state, &mut block, part);
+        let answer = next_words(&mut state, &block, &mut buffer);
+        (answer, state)
+    };
+    let not_yet = [4, 0, 0, 0, 0, 0, 0, 0, 0, 0];
+    let opened = [9, 9, 9, 0, 1, 0, 2, 0, 1, 0];
+    assert_eq!(fed(&parts[0]), (not_yet, opened));
+    let extended = [9, 16, 16, 0, 1, 0, 2, 0, 2, 9];
+    assert_eq!(fed(&parts[1]), (not_yet, extended));
+    let record = [0, 0, 26, 5, 1, 0, 26, 3, 16, 0];
+    let closed = [9, 26, 26, 0, 0, 0, 0, 0, 0, 0];
+    assert_eq!(fed(&parts[2]), (record, closed));
+}
+
+/// The last two words count like the others: no word is left for later.
+#[test]
+fn of_states_whose_last_words_do_not_fit() {
+    for (fragments, last_header) in [(1, 0), (0, 1), (77, u64::MAX)] {
+        let misfit = [9, 0, 0, 0, 0, 0, 0, 0, fragments, last_header];
+        let (mut state, mut block) = (misfit, [0; BLOCK]);
+        let refused = |kind| [kind, 2, 0, 0, 0, 0, 0, 0, 0, 0];
+        assert_eq!(take_words(&mut state, &mut block, &[7]), refused(1));
+        assert_eq!(next_words(&mut state, &block, &mut [0; 9]), refused(3));
+        end_words(&mut state);
+        assert_eq!(state, misfit);
+    }
 }
 
 /// A bad fragment that waits, a skipped range, and a clean end, which goes on from what has come.
@@ -94,37 +131,37 @@ fn are_the_plain_numbers() {
                 7 if random.below(4) == 0 => alter(random, &mut plain, &mut words),
                 _ => {}
             }
-            assert_eq!(numbers(&plain), words[..8]);
+            assert_eq!(numbers(&plain), words);
             assert!(block == block_of_words && buffer == buffer_of_words);
         }
     }
 }
 
-fn numbers(state: &State) -> [u64; 8] {
-    let State {
-        limit, place, came, ..
-    } = *state;
-    let State { over, opened, .. } = *state;
-    let State {
-        start, length, bad, ..
-    } = *state;
-    [limit, place, came, over, opened, start, length, bad]
+/// In the order of §11.2.
+fn numbers(state: &State) -> [u64; 10] {
+    let mut state = *state;
+    each(&mut state).map(|number| *number)
+}
+
+fn each(state: &mut State) -> [&mut u64; 10] {
+    [
+        &mut state.limit,
+        &mut state.place,
+        &mut state.came,
+        &mut state.over,
+        &mut state.opened,
+        &mut state.start,
+        &mut state.length,
+        &mut state.bad,
+        &mut state.fragments,
+        &mut state.last_header,
+    ]
 }
 
 /// One number is made up.
 fn alter(random: &mut Random, plain: &mut State, words: &mut [u64; 10]) {
     let number = make::pick(random, &[0, 1, 2, 3, 7, 20, LONGEST_LOG as u64, u64::MAX]);
-    let which = random.below(8);
+    let which = random.below(words.len());
     words[which] = number;
-    let into = [
-        &mut plain.limit,
-        &mut plain.place,
-        &mut plain.came,
-        &mut plain.over,
-        &mut plain.opened,
-        &mut plain.start,
-        &mut plain.length,
-        &mut plain.bad,
-    ];
-    *into.into_iter().nth(which).expect("one of eight") = number;
+    *each(plain)[which] = number;
 }

@@ -97,7 +97,7 @@ fn the_pictures_moments() {
 }
 
 /// A record without data that a trailer is inside of.
-fn inside(trailer: &[u8]) -> Vec<u8> {
+pub fn inside(trailer: &[u8]) -> Vec<u8> {
     let mut log = fragment(FULL, &[1; 32_748]);
     says(&text(), &format!("a FULL from 0 to {}", grouped(log.len())));
     log.extend(fragment(FIRST, b""));

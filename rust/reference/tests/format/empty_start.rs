@@ -16,7 +16,7 @@ fn tables() -> [Vec<Vec<String>>; 2] {
 
 /// A FULL that leaves 7 bytes of its block, an empty FIRST there, and then a record that the first
 /// cell of a row tells.
-fn log(record: &str) -> Vec<u8> {
+pub fn log(record: &str) -> Vec<u8> {
     let mut log = fragment(FULL, &[1; 32_754]);
     log.extend(fragment(FIRST, b""));
     match record {

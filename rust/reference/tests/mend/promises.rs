@@ -2,7 +2,7 @@
 
 use crate::random::Random;
 use crate::reading::{reading, Reading};
-use reference::log::{append, Appended, Tail};
+use reference::log::{append, stored_by, Appended, Tail};
 use reference::mend::{mend, Mended};
 
 /// A call, and all that was lent to it afterwards.
@@ -100,10 +100,17 @@ impl Case<'_> {
         assert!(called.buffer == self.buffer, "the buffer");
     }
 
-    /// *Mended* and *mended again* of §12.6.
+    /// *Mended* and *mended again* of §12.6. The records are stored as appends store them (§16.6).
     fn reads_and_mends_again(&self, random: &mut Random) {
         let read = reading(self.log, self.limit, self.buffer);
         assert!(read.records == self.read.records, "the same records");
+        let lengths = read.records.iter().map(Vec::len);
+        let by_their_spans = read
+            .spans
+            .iter()
+            .zip(lengths)
+            .map(|(span, length)| stored_by(span.start, span.end, length));
+        assert!(read.stored.iter().copied().eq(by_their_spans), "§16.5");
         assert_eq!((read.tail, read.skipped), (Tail::Clean, vec![]));
         let spare = random.below(9);
         let fresh = random.bytes(self.log.len() + spare);

@@ -7,6 +7,8 @@ pub struct Reading {
     pub records: Vec<Vec<u8>>,
     /// The records' spans, in the same order.
     pub spans: Vec<Range<usize>>,
+    /// How each was stored: its fragments, and where the last one's header is.
+    pub stored: Vec<(usize, usize)>,
     /// The skipped ranges, each with its reason.
     pub skipped: Vec<(Range<usize>, u8)>,
     pub tail: Tail,
@@ -19,6 +21,7 @@ pub fn reading(log: &[u8], limit: usize, buffer: &[u8]) -> Reading {
     let mut read = Reading {
         records: Vec::new(),
         spans: Vec::new(),
+        stored: Vec::new(),
         skipped: Vec::new(),
         tail: Tail::Clean,
         buffer: buffer.to_vec(),
@@ -27,10 +30,17 @@ pub fn reading(log: &[u8], limit: usize, buffer: &[u8]) -> Reading {
     loop {
         let answer = next(log, place, limit, &mut read.buffer);
         match answer {
-            Next::Record { start, end, .. } => {
+            Next::Record {
+                start,
+                end,
+                fragments,
+                last_header,
+                ..
+            } => {
                 let record = record_bytes(log, &read.buffer, &answer).to_vec();
                 read.records.push(record);
                 read.spans.push(start..end);
+                read.stored.push((fragments, last_header));
                 place = end;
             }
             Next::Skip { start, end, reason } => {

@@ -62,7 +62,7 @@ impl Log {
     fn before(&self) -> Vec<Next> {
         match self.start().unwrap_or(self.trailer) {
             0 => Vec::new(),
-            end => vec![record(0, end, end - HEADER, Stored::Whole(HEADER))],
+            end => vec![record(0, end, end - HEADER, Stored::Whole(HEADER), (1, 0))],
         }
     }
 
@@ -88,7 +88,7 @@ impl Log {
     fn after(&self) -> Next {
         let end = BLOCK + HEADER + 3;
         match self.open {
-            Open::Nothing => record(BLOCK, end, 3, Stored::Whole(BLOCK + HEADER)),
+            Open::Nothing => record(BLOCK, end, 3, Stored::Whole(BLOCK + HEADER), (1, BLOCK)),
             _ => skip(BLOCK, end, 5),
         }
     }
@@ -168,7 +168,10 @@ fn of_zeros() {
                 Some(start) => {
                     let empty = open != Open::Record;
                     let so_far = if empty { 0 } else { log.trailer - HEADER };
-                    record(start, end, so_far + 3, Stored::Gathered)
+                    // The trailer is no fragment (§16.2).
+                    let before = if open == Open::EmptyMiddle { 2 } else { 1 };
+                    let how = (before + 1, BLOCK);
+                    record(start, end, so_far + 3, Stored::Gathered, how)
                 }
             });
             due.push(Next::End(Tail::Clean));
