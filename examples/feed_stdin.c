@@ -1,7 +1,8 @@
 /*
  * Reads a journal from standard input as it comes, over a slow line say, and prints what is in it,
- * each line as soon as nothing that may still come can change it: each record's range and length,
- * each range in doubt and why, each that is skipped without a loss, and how it ends.
+ * each line as soon as nothing that may still come can change it: each record's range, length and
+ * how it was stored, each range in doubt and why, each that is skipped without a loss, and how it
+ * ends.
  *
  *   cc -std=c99 -Iinclude examples/feed_stdin.c target/staticlib/libmellansko.a -o feed_stdin &&
  *   ./feed_stdin <samples/damaged.log
@@ -48,8 +49,10 @@ static void print_certain(void)
     for (;;) {
         switch (mellansko_feed_next(&feed, block, buffer, sizeof buffer, &answer)) {
         case MELLANSKO_RECORD: /* its bytes are the buffer's first */
-            printf("record %" PRIu64 " to %" PRIu64 ": %" PRIu64 " bytes\n", answer.record.start,
-                   answer.record.end, answer.record.length);
+            printf("record %" PRIu64 " to %" PRIu64 ": %" PRIu64 " bytes; fragments: %" PRIu64
+                   ", last at %" PRIu64 "\n",
+                   answer.record.start, answer.record.end, answer.record.length,
+                   answer.record.fragments, answer.record.last_header);
             break;
         case MELLANSKO_SKIP:
             loss = mellansko_reason_is_loss(answer.skip.reason);

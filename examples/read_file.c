@@ -1,6 +1,6 @@
 /*
- * Reads a journal from a file, and prints what is in it: each record's range and length, each
- * range in doubt and why, each that is skipped without a loss, and how it ends.
+ * Reads a journal from a file, and prints what is in it: each record's range, length and how it was
+ * stored, each range in doubt and why, each that is skipped without a loss, and how it ends.
  *
  *   cc -std=c99 -Iinclude examples/read_file.c target/staticlib/libmellansko.a -o read_file &&
  *   ./read_file samples/damaged.log
@@ -76,8 +76,10 @@ static int print_log(const char *name, const uint8_t *bytes, size_t length)
         switch (mellansko_next(bytes, length, place, sizeof buffer, buffer, sizeof buffer,
                                &answer)) {
         case MELLANSKO_RECORD:
-            printf("record %" PRIu64 " to %" PRIu64 ": %" PRIu64 " bytes\n", answer.record.start,
-                   answer.record.end, answer.record.length);
+            printf("record %" PRIu64 " to %" PRIu64 ": %" PRIu64 " bytes; fragments: %" PRIu64
+                   ", last at %" PRIu64 "\n",
+                   answer.record.start, answer.record.end, answer.record.length,
+                   answer.record.fragments, answer.record.last_header);
             break;
         case MELLANSKO_SKIP:
             loss = mellansko_reason_is_loss(answer.skip.reason);

@@ -140,7 +140,9 @@ enum mellansko_mend_kind {
 struct mellansko_accepted { uint64_t kind, mark; };
 struct mellansko_taken { uint64_t kind, length; };
 struct mellansko_mended { uint64_t kind, length, skipped; };
-struct mellansko_record { uint64_t kind, start, end, length, stored, data, place; };
+struct mellansko_record {
+    uint64_t kind, start, end, length, stored, data, place, fragments, last_header;
+};
 struct mellansko_skip { uint64_t kind, start, end, reason, zero[2], place; };
 struct mellansko_end { uint64_t kind, tail, start, zero[3], place; };
 struct mellansko_refused { uint64_t kind, number, given; };
@@ -168,6 +170,8 @@ typedef char mellansko_answer_has_the_words_of_the_calls[
     offsetof(struct mellansko_answer, taken.length) == 8 &&
     offsetof(struct mellansko_answer, mended.skipped) == 16 &&
     offsetof(struct mellansko_answer, record.place) == 48 &&
+    offsetof(struct mellansko_answer, record.fragments) == 56 &&
+    offsetof(struct mellansko_answer, record.last_header) == 64 &&
     offsetof(struct mellansko_answer, skip.place) == 48 &&
     offsetof(struct mellansko_answer, end.place) == 48 &&
     offsetof(struct mellansko_answer, refused.given) == 16 ? 1 : -1];
@@ -279,7 +283,8 @@ uint64_t mellansko_append(uint8_t *log, size_t log_len, size_t mark, const uint8
  * limit on a record's length and a buffer (buffer, buffer_len) of at least as many bytes. Returns
  * the answer's kind:
  *
- *   MELLANSKO_RECORD         record.start and .end, its span; .length, .stored and .data, its bytes
+ *   MELLANSKO_RECORD         record.start and .end, its span; .length, .stored and .data, its
+ *                            bytes; .fragments and .last_header, how it was stored
  *   MELLANSKO_SKIP           skip.start, .end and .reason
  *   MELLANSKO_END            end.tail and .start
  *   MELLANSKO_NEXT_REFUSED   refused.number, refused.given
@@ -294,6 +299,16 @@ uint64_t mellansko_append(uint8_t *log, size_t log_len, size_t mark, const uint8
  * (6.3). Every byte is then in exactly one span, skipped range or torn tail, or is a zero of a
  * trailer outside of these (6.2, 14.4). A call at any other place reads a header where there may be
  * none.
+ *
+ * record.fragments is how many fragments the record was read from, and .last_header the place where
+ * the header of the last of them starts (16.1). There is 1 exactly if .stored is MELLANSKO_WHOLE,
+ * and otherwise there are 2 or more. The last one's header of 7 bytes and then its data go from
+ * .last_header to .end; with 1 that is all of the span. What the span has besides 7 bytes for each
+ * fragment and .length bytes are zeros of trailers between them (16.3). A record that
+ * mellansko_append wrote, if it comes out as written, has no such zeros: 7 * .fragments is
+ * .end - .start - .length. And its .last_header is where the block of its last byte starts,
+ * (.end - 1) / 32,768 * 32,768, or .start if that is greater (16.5). A record with other numbers is
+ * not as an append wrote it.
  *
  * Do not treat what is torn as never written, nor what is skipped, unless mellansko_reason_is_loss
  * gives 0 for the reason. A torn tail may be the record that was being written when the power went.
@@ -313,15 +328,16 @@ uint64_t mellansko_next(const uint8_t *log, size_t log_len, size_t place, size_t
  * numbers do not fit together (11.3).
  */
 struct mellansko_feed {
-    uint64_t limit;     /* the most bytes of a record that is handed out */
-    uint64_t place;     /* the place that reading has come to */
-    uint64_t came;      /* how many bytes of the log have come */
-    uint64_t over;      /* 1 if the end is announced, else 0 */
-    uint64_t opened;    /* 1 if a record is open: begun, and not finished yet; else 0 */
-    uint64_t start;     /* where the open record started; 0 if none is open */
-    uint64_t length;    /* how many bytes of it the buffer holds; 0 if none is open */
-    uint64_t bad;       /* the reason, 1 to 3, to skip from the place on, if it is seen; else 0 */
-    uint64_t later[2];  /* begin sets them to 0, and no other call reads or changes them */
+    uint64_t limit;        /* the most bytes of a record that is handed out */
+    uint64_t place;        /* the place that reading has come to */
+    uint64_t came;         /* how many bytes of the log have come */
+    uint64_t over;         /* 1 if the end is announced, else 0 */
+    uint64_t opened;       /* 1 if a record is open: begun, and not finished yet; else 0 */
+    uint64_t start;        /* where the open record started; 0 if none is open */
+    uint64_t length;       /* how many bytes of it the buffer holds; 0 if none is open */
+    uint64_t bad;          /* the reason, 1 to 3, to skip from the place on, if seen; else 0 */
+    uint64_t fragments;    /* how many fragments the open record has so far; 0 if none is open */
+    uint64_t last_header;  /* where the last of them starts; 0 if none is open */
 };
 
 /* If these were not the calls' words (11.14), this would not compile. */
@@ -335,7 +351,8 @@ typedef char mellansko_feed_has_the_words_of_the_calls[
     offsetof(struct mellansko_feed, start) == 40 &&
     offsetof(struct mellansko_feed, length) == 48 &&
     offsetof(struct mellansko_feed, bad) == 56 &&
-    offsetof(struct mellansko_feed, later) == 64 ? 1 : -1];
+    offsetof(struct mellansko_feed, fragments) == 64 &&
+    offsetof(struct mellansko_feed, last_header) == 72 ? 1 : -1];
 
 /*
  * Begins to read a log that comes in pieces of any length, with a limit on a record's length.
@@ -388,7 +405,10 @@ void mellansko_feed_end(struct mellansko_feed *feed);
  * with what has come. Returns the answer's kind:
  *
  *   MELLANSKO_RECORD         record.start and .end, its span; .length: the buffer's first so many
- *                            bytes, until the next call; .stored is MELLANSKO_GATHERED
+ *                            bytes, until the next call; .stored is MELLANSKO_GATHERED;
+ *                            .fragments and .last_header, as mellansko_next answers them for the
+ *                            whole log: here .fragments tells whether it stood in one piece, and
+ *                            .stored does not (16.7)
  *   MELLANSKO_SKIP           skip.start, .end and .reason
  *   MELLANSKO_END            end.tail and .start, once the end is announced; and again if called
  *                            again
@@ -430,7 +450,8 @@ uint64_t mellansko_feed_next(struct mellansko_feed *feed, const uint8_t block[ME
  *
  * The mended log is never longer than the bad one: a fresh log of bad_len bytes has room (12.4). At
  * the same limit it reads as the same records, with no skip and a clean end (12.6), so it may be
- * appended to at its length.
+ * appended to at its length. Their spans, .fragments and .last_header are those that they have in
+ * it, as mellansko_append stored them there, whatever they were in the bad log (16.6).
  *
  * A mended log does not show that anything was lost, nor where: it reads as whole (12.8). Where
  * something is missing, though not what, is said by a reading of the bad log, as far as a reader

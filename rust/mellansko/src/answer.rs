@@ -21,12 +21,40 @@ pub enum Next {
 /// A record, from its first header to its last fragment's end. It is stored as one or more
 /// fragments, each a header of 7 bytes and then data, of which none crosses a block's end.
 ///
+/// How it was stored is said in two numbers, of the log that is read, whoever wrote it
+/// (`docs/FORMAT.md`, §16). If [`append`](crate::append) wrote the record, and it comes out as
+/// written, each fragment but the last goes up to the end of its block, so both can be worked out:
+///
+/// ```
+/// use mellansko::{Answer, Reading, BLOCK};
+///
+/// // A record of 70,000 bytes, over the ends of two blocks.
+/// let mut log = vec![0; 80_000];
+/// let mark = mellansko::append(&mut log, 0, b"LW10-1 0.9137")?;
+/// let mark = mellansko::append(&mut log, mark, &[7; 70_000])?;
+/// let Some(Answer::Record { record, .. }) = Reading::of(&log[..mark])?.nth(1) else {
+///     panic!("the record was lost");
+/// };
+/// assert_eq!((record.fragments, record.last_header), (3, 2 * BLOCK));
+///
+/// // In its range there are its own bytes, and a header for each fragment.
+/// assert_eq!(record.end - record.start, record.length + 7 * record.fragments);
+/// // The last fragment starts with its block, unless the record starts after that.
+/// let block = (record.end - 1) / BLOCK * BLOCK;
+/// assert_eq!(record.last_header, block.max(record.start));
+/// # Ok::<(), mellansko::Refusal>(())
+/// ```
+///
+/// Of any other record there may be more and shorter fragments in its range, and zeros of trailers
+/// between them.
+///
 /// There may be more fields in time, so it is made by a call alone:
 ///
 /// ```compile_fail,E0639
 /// use mellansko::{Record, Stored};
 ///
-/// let record = Record { start: 0, end: 12, length: 5, stored: Stored::Whole(7) };
+/// let stored = Stored::Whole(7);
+/// let record = Record { start: 0, end: 12, length: 5, stored, fragments: 1, last_header: 0 };
 /// ```
 #[derive(Clone, Copy, Debug, PartialEq, Eq, Hash)]
 #[non_exhaustive]
@@ -39,6 +67,14 @@ pub struct Record {
     pub length: usize,
     /// Where they are.
     pub stored: Stored,
+    /// How many fragments it was read from: 1 or more, those without data counted. A call that is
+    /// lent the whole log says [`Whole`](Stored::Whole) exactly if there is 1. A
+    /// [`Feed`](crate::Feed) says [`Gathered`](Stored::Gathered) of every record, so there this
+    /// alone tells whether it stood in one piece.
+    pub fragments: usize,
+    /// Where the header of the last of them starts. That header and then the fragment's data go up
+    /// to `end`. With one fragment it is `start`.
+    pub last_header: usize,
 }
 
 /// Where a record's bytes are.

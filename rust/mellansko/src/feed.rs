@@ -12,9 +12,9 @@ use std::fmt;
 /// Pieces may have any length; where they are cut makes no difference to the answers of a log that
 /// is not too long, that is of up to [`LONGEST_LOG`](crate::LONGEST_LOG) bytes. These are those that
 /// [`Reading`](crate::Reading) gives of the whole log, in the same order, but that every record is
-/// [gathered](crate::Stored::Gathered), also one of a single fragment. A `Feed` holds one block and
-/// one record, however long the log is: for the record it keeps a buffer of as many bytes as the
-/// limit, 4 MiB of them with the highest.
+/// [gathered](crate::Stored::Gathered), also one of a [single fragment](crate::Record::fragments).
+/// A `Feed` holds one block and one record, however long the log is: for the record it keeps a
+/// buffer of as many bytes as the limit, 4 MiB of them with the highest.
 ///
 /// The simplest way is [`push`](Feed::push), which takes all of a piece and gives what is then
 /// certain; at last [`end`](Feed::end) announces that no more comes. [`Incoming`](crate::Incoming)

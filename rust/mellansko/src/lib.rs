@@ -89,7 +89,7 @@
 //! # What is promised
 //!
 //! Of the calls that this crate links this is proved. `docs/FORMAT.md` of the repository has the exact
-//! words (§5 to §7, §11.12, §12, §14.4), and `docs/PROOF.md` says what the proof rests on:
+//! words (§5 to §7, §11.12, §12, §14.4, §16), and `docs/PROOF.md` says what the proof rests on:
 //!
 //! - Whatever it is lent, each call ends and does nothing undefined. One that is refused changes no
 //!   lent byte.
@@ -99,7 +99,8 @@
 //!   and one that it falls into is a torn tail. If any bytes of one block are changed, and the length
 //!   stays, the records with no byte in that block come out as written.
 //! - Of any log, every byte is in exactly one record's span, skipped range or torn tail, or is a zero
-//!   of a trailer outside of these.
+//!   of a trailer outside of these. Each record is answered with how many
+//!   [fragments](Record::fragments) it was read from, and where the last of them starts.
 //! - A log that is fed in pieces, wherever they are cut, has the answers of the whole log. Each is
 //!   given as early as can be: as soon as all logs have it that begin with what has come.
 //! - Mending a log, of any 1,073,741,824 bytes or fewer, makes one that is no longer than it. With the

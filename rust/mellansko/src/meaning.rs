@@ -80,6 +80,8 @@ fn record(answer: &Numbers) -> Record {
             1 => Stored::Gathered,
             _ => unproved(answer),
         },
+        fragments: number(answer, 7),
+        last_header: number(answer, 8),
     }
 }
 

@@ -26,7 +26,9 @@ pub struct Mended {
 /// turn.
 ///
 /// Read with the same limit, the mended log answers the same records and a clean end, and skips
-/// nothing. So a record may be appended to it at its length.
+/// nothing. So a record may be appended to it at its length. Where the records stand in it, and in
+/// how many [fragments](crate::Record::fragments), is as the appends made it, whatever it was in the
+/// bad log.
 ///
 /// A mended log does not show that anything was lost, nor where. Where something is missing, though
 /// not what, is said by the [`Skip`](crate::Skip)s that are [a loss](crate::Reason::is_loss) and the

@@ -78,7 +78,7 @@ pub fn append(log: &mut [u8], mark: usize, record: &[u8], answer: &mut Numbers) 
 /// ten, of which those that a case does not name are 0:
 ///
 /// - record: 0, start, end, length, 0 whole or 1 gathered, place of the first data byte if whole,
-///   place to go on from;
+///   place to go on from, fragments, last header;
 /// - skip: 1, start, end, reason, 0, 0, place to go on from;
 /// - end: 2, 0 clean or 1 torn, the tail's start if torn, 0, 0, 0, place to go on from;
 /// - refused: 3, number, place given.

@@ -23,7 +23,8 @@ extern "C" {
     ) -> u64;
 }
 
-/// Limit, place, came, over, opened, start, length, bad; the last two are left for later.
+/// Limit, place, came, over, opened, start, length, bad, and of the open record fragments and last
+/// header.
 pub type State = [u64; 10];
 
 /// Which number of a state is which.
@@ -73,7 +74,7 @@ pub fn end(state: &mut State) {
 /// Gives the next answer that is certain. Gives its first number, and writes all ten, of which
 /// those that a case does not name are 0:
 ///
-/// - record: 0, start, end, length, 1, 0, place to go on from;
+/// - record: 0, start, end, length, 1, 0, place to go on from, fragments, last header;
 /// - skip: 1, start, end, reason, 0, 0, place to go on from;
 /// - end: 2, 0 clean or 1 torn, the tail's start if torn, 0, 0, 0, place to go on from;
 /// - refused: 3, number, 0;

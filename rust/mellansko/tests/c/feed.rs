@@ -52,8 +52,8 @@ fn each_answer_is_printed_when_it_is_certain() {
     .concat();
     // How many bytes, and what is then printed.
     let steps = [
-        (20, "record 0 to 20: 13 bytes"),
-        (45, "record 20 to 45: 11 bytes"),
+        (20, "record 0 to 20: 13 bytes; fragments: 1, last at 0"),
+        (45, "record 20 to 45: 11 bytes; fragments: 2, last at 31"),
         (
             61,
             "skipped 45 to 52: an empty start: a record begun with no bytes, and then begun again",

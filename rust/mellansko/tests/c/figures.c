@@ -52,20 +52,21 @@ static void readings(void)
     NEXT(20, 5, longest, longest - 1, refused, MELLANSKO_BUFFER_TOO_SHORT, 5);
     NEXT(most, most, longest, longest, MELLANSKO_END, MELLANSKO_CLEAN, 0, 0, 0, 0, most);
     NEXT(most, most - HEADER, longest, longest, MELLANSKO_RECORD, most - HEADER, most, 0,
-         MELLANSKO_WHOLE, most, most);
+         MELLANSKO_WHOLE, most, most, 1, most - HEADER);
 }
 
 /* A record that fills its log, and comes back. */
 static void longest_record(void)
 {
-    const size_t data = MELLANSKO_BLOCK - HEADER;
-    const size_t end = longest + HEADER * ((longest + data - 1) / data);
+    const size_t data = MELLANSKO_BLOCK - HEADER, fragments = (longest + data - 1) / data;
+    const size_t end = longest + HEADER * fragments, last = (fragments - 1) * MELLANSKO_BLOCK;
     size_t i;
     for (i = 0; i < longest; i++)
         record[i] = (uint8_t)(i % 251);
     APPEND(end - 1, 0, longest, MELLANSKO_APPEND_REFUSED, MELLANSKO_NO_ROOM, 0);
     APPEND(end, 0, longest, MELLANSKO_ACCEPTED, end);
-    NEXT(end, 0, longest, longest, MELLANSKO_RECORD, 0, end, longest, MELLANSKO_GATHERED, 0, end);
+    NEXT(end, 0, longest, longest, MELLANSKO_RECORD, 0, end, longest, MELLANSKO_GATHERED, 0, end,
+         fragments, last);
     holds(__LINE__, "the record", memcmp(buffer, record, longest) == 0);
     memset(bytes, 0, end);
 }

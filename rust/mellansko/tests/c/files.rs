@@ -54,7 +54,8 @@ fn an_empty_start_is_no_damage() {
         let ran = run(Command::new(&append).arg(&file).arg("LW12"), b"");
         assert_eq!(printed(&ran), (String::new(), 0), "{}", said(&ran));
         let (before, _) = EARLY.split_once("clean").expect("a clean end");
-        let after = "record 33775 to 33786: 4 bytes\nclean end at 33786\n";
+        let record = "record 33775 to 33786: 4 bytes; fragments: 1, last at 33775";
+        let after = format!("{record}\nclean end at 33786\n");
         reads_as((format!("{before}{after}"), 0));
         fs::write(&file, [log, fragment(LAST, b"")].concat()).expect("a file");
         let after = skipped(33_775, 33_782, 5) + "clean end at 33782\n";
@@ -319,8 +320,16 @@ pub fn reading(log: &[u8]) -> (String, i32) {
         place = answer.place_after(log);
         match answer {
             Next::Record {
-                start, end, length, ..
-            } => lines += &format!("record {start} to {end}: {length} bytes\n"),
+                start,
+                end,
+                length,
+                fragments,
+                last_header,
+                ..
+            } => {
+                let stored = format!("fragments: {fragments}, last at {last_header}");
+                lines += &format!("record {start} to {end}: {length} bytes; {stored}\n");
+            }
             Next::Skip { start, end, reason } => {
                 lines += &skipped(start, end, reason);
                 // Nothing is in doubt there (docs/FORMAT.md, §13.5).
@@ -350,9 +359,9 @@ pub fn of_an_early_writer() -> Vec<u8> {
 }
 
 /// What read_file and feed_stdin print of it.
-pub const EARLY: &str = "record 0 to 32761: 32754 bytes\n\
+pub const EARLY: &str = "record 0 to 32761: 32754 bytes; fragments: 1, last at 0\n\
      skipped 32761 to 32768: an empty start: a record begun with no bytes, and then begun again\n\
-     record 32768 to 33775: 1000 bytes\n\
+     record 32768 to 33775: 1000 bytes; fragments: 1, last at 32768\n\
      clean end at 33775\n";
 
 /// A journal with a dirty trailer between two records (docs/FORMAT.md, §14.7).
@@ -365,9 +374,9 @@ pub fn with_a_dirty_trailer() -> Vec<u8> {
 }
 
 /// What read_file and feed_stdin print of it, with status 1.
-pub const DIRTY: &str = "record 0 to 32762: 32755 bytes\n\
+pub const DIRTY: &str = "record 0 to 32762: 32755 bytes; fragments: 1, last at 0\n\
      in doubt 32762 to 32768: the bytes that fill up a block are not all zero\n\
-     record 32768 to 33775: 1000 bytes\n\
+     record 32768 to 33775: 1000 bytes; fragments: 1, last at 32768\n\
      clean end at 33775\n";
 
 pub fn appended(mut log: Vec<u8>, record: &[u8]) -> Vec<u8> {

@@ -216,6 +216,8 @@ static void names(void)
     WORD(record.stored, 4);
     WORD(record.data, 5);
     WORD(record.place, 6);
+    WORD(record.fragments, 7);
+    WORD(record.last_header, 8);
     WORD(skip.kind, 0);
     WORD(skip.start, 1);
     WORD(skip.end, 2);
@@ -234,7 +236,8 @@ static void sizes(void)
 {
     const size_t all = RECORD, end = RECORD + 2 * HEADER;
     APPEND(LOG, 0, all, MELLANSKO_ACCEPTED, end);
-    NEXT(LOG, 0, all, all, MELLANSKO_RECORD, 0, end, all, MELLANSKO_GATHERED, 0, end);
+    NEXT(LOG, 0, all, all, MELLANSKO_RECORD, 0, end, all, MELLANSKO_GATHERED, 0, end, 2,
+         MELLANSKO_BLOCK);
     APPEND(LOG, 0, MELLANSKO_BLOCK - HEADER, MELLANSKO_ACCEPTED, MELLANSKO_BLOCK);
     APPEND(LOG, 0, MELLANSKO_BLOCK - HEADER + 1, MELLANSKO_ACCEPTED, MELLANSKO_BLOCK + HEADER + 1);
     APPEND(LOG, MELLANSKO_BLOCK - 6, 3, MELLANSKO_ACCEPTED, MELLANSKO_BLOCK + HEADER + 3);
@@ -262,7 +265,7 @@ static void answers(void)
 {
     /* Types: 1 is all of a record, 2 its first part, 3 one between, 4 its last. */
     put(10, 1, 3);
-    NEXT(20, 10, 3, 3, MELLANSKO_RECORD, 10, 20, 3, MELLANSKO_WHOLE, 17, 20);
+    NEXT(20, 10, 3, 3, MELLANSKO_RECORD, 10, 20, 3, MELLANSKO_WHOLE, 17, 20, 1, 10);
     NEXT(20, 10, 2, 2, MELLANSKO_SKIP, 10, 20, MELLANSKO_OVER_LIMIT, 0, 0, 20);
     NEXT(20, 20, 3, 3, MELLANSKO_END, MELLANSKO_CLEAN, 0, 0, 0, 0, 20);
     NEXT(19, 10, 3, 3, MELLANSKO_END, MELLANSKO_TORN, 10, 0, 0, 0, 10);
@@ -280,7 +283,10 @@ static void answers(void)
     put(20, 1, 3);
     NEXT(50, 10, 3, 3, MELLANSKO_SKIP, 10, 20, MELLANSKO_INTERRUPTED, 0, 0, 20);
     put(20, 4, 0);
-    NEXT(50, 10, 5, 5, MELLANSKO_RECORD, 10, 27, 3, MELLANSKO_GATHERED, 0, 27);
+    NEXT(50, 10, 5, 5, MELLANSKO_RECORD, 10, 27, 3, MELLANSKO_GATHERED, 0, 27, 2, 20);
+    put(20, 3, 0);
+    put(27, 4, 0);
+    NEXT(50, 10, 5, 5, MELLANSKO_RECORD, 10, 34, 3, MELLANSKO_GATHERED, 0, 34, 3, 27);
 }
 
 /* A record that has no bytes yet, what it is begun afresh with, and what interrupts it. */
@@ -310,14 +316,15 @@ static void dirty_trailers(void)
     put(start - HEADER, 1, 0);
     memset(now.log + start, 0, 6);
     put(block, 1, 3);
-    NEXT(log, start, 3, 3, MELLANSKO_RECORD, block, log, 3, MELLANSKO_WHOLE, block + HEADER, log);
+    NEXT(log, start, 3, 3, MELLANSKO_RECORD, block, log, 3, MELLANSKO_WHOLE, block + HEADER, log, 1,
+         block);
     now.log[block - 4] = 1;
     NEXT(log, start, 3, 3, MELLANSKO_SKIP, start, block, MELLANSKO_DIRTY_TRAILER, 0, 0, block);
     NEXT(block - 3, start, 3, 3, MELLANSKO_SKIP, start, block - 3, MELLANSKO_DIRTY_TRAILER, 0, 0,
          block - 3);
     NEXT(block - 4, start, 3, 3, MELLANSKO_END, MELLANSKO_CLEAN, 0, 0, 0, 0, block - 4);
     NEXT(log, block - 3, 3, 3, MELLANSKO_RECORD, block, log, 3, MELLANSKO_WHOLE, block + HEADER,
-         log);
+         log, 1, block);
     put(start - HEADER, 2, 0);
     NEXT(log, start - HEADER, 3, 3, MELLANSKO_SKIP, start - HEADER, start, MELLANSKO_INTERRUPTED, 0,
          0, start);
@@ -332,7 +339,7 @@ static void feed_names(void)
     memcpy(&feed, words, sizeof feed);
     CHECK(feed.limit == 0 && feed.place == 1 && feed.came == 2 && feed.over == 3);
     CHECK(feed.opened == 4 && feed.start == 5 && feed.length == 6 && feed.bad == 7);
-    CHECK(feed.later[0] == 8 && feed.later[1] == 9);
+    CHECK(feed.fragments == 8 && feed.last_header == 9);
 }
 
 /* A record of two fragments, a bad one, and the end of both the log and the block. */
@@ -344,27 +351,26 @@ static void feeding(void)
     memset(now.log + 29, 0, 20);
     BEGIN(all, MELLANSKO_BEGUN);
     FEED(all);
-    lent_feed.feed.later[0] = 7, lent_feed.feed.later[1] = 8;
     FEED_NEXT(all, 0, 0, MELLANSKO_NOT_YET);
     TAKE(10, 0, MELLANSKO_TAKEN, 0);
     TAKE(10, 9, MELLANSKO_TAKEN, 9);
     FEED_NEXT(all, 0, 0, MELLANSKO_NOT_YET);
     TAKE(19, 2, MELLANSKO_TAKEN, 2);
     FEED_NEXT(all, 0, 3, MELLANSKO_NOT_YET);
-    FEED(all, 10, 11, 0, 1, 0, 3, 0, 7, 8);
+    FEED(all, 10, 11, 0, 1, 0, 3, 0, 1, 0);
     TAKE(21, 15, MELLANSKO_TAKEN, 15);
-    FEED_NEXT(all, 3, 2, MELLANSKO_RECORD, 0, 19, 5, MELLANSKO_GATHERED, 0, 19);
+    FEED_NEXT(all, 3, 2, MELLANSKO_RECORD, 0, 19, 5, MELLANSKO_GATHERED, 0, 19, 2, 10);
     CHECK(memcmp(now.buffer, now.record, 3) == 0 && memcmp(now.buffer + 3, now.record, 2) == 0);
-    FEED(all, 19, 26, 0, 0, 0, 0, 0, 7, 8);
+    FEED(all, 19, 26);
     FEED_NEXT(all, 0, 0, MELLANSKO_NOT_YET);
-    FEED(all, 19, 26, 0, 0, 0, 0, MELLANSKO_BLANK, 7, 8);
+    FEED(all, 19, 26, 0, 0, 0, 0, MELLANSKO_BLANK);
     mellansko_feed_end(&lent_feed.feed);
     mellansko_feed_end(&lent_feed.feed);
-    FEED(all, 19, 26, 1, 0, 0, 0, MELLANSKO_BLANK, 7, 8);
+    FEED(all, 19, 26, 1, 0, 0, 0, MELLANSKO_BLANK);
     FEED_NEXT(all, 0, 0, MELLANSKO_SKIP, 19, 26, MELLANSKO_BLANK, 0, 0, 26);
     FEED_NEXT(all, 0, 0, MELLANSKO_END, MELLANSKO_CLEAN, 0, 0, 0, 0, 26);
     FEED_NEXT(all, 0, 0, MELLANSKO_END, MELLANSKO_CLEAN, 0, 0, 0, 0, 26);
-    FEED(all, 26, 26, 1, 0, 0, 0, 0, 7, 8);
+    FEED(all, 26, 26, 1);
 }
 
 /* An empty start is certain when all of the fragment has come with which the record begins. */
@@ -375,11 +381,11 @@ static void fed_empty_start(void)
     BEGIN(3, MELLANSKO_BEGUN);
     TAKE(10, 15, MELLANSKO_TAKEN, 15);
     FEED_NEXT(3, 0, 0, MELLANSKO_NOT_YET);
-    FEED(3, 7, 15, 0, 1);
+    FEED(3, 7, 15, 0, 1, 0, 0, 0, 1, 0);
     TAKE(25, 1, MELLANSKO_TAKEN, 1);
     FEED_NEXT(3, 0, 0, MELLANSKO_SKIP, 0, 7, MELLANSKO_EMPTY_START, 0, 0, 7);
     FEED(3, 7, 16);
-    FEED_NEXT(3, 0, 2, MELLANSKO_RECORD, 7, 16, 2, MELLANSKO_GATHERED, 0, 16);
+    FEED_NEXT(3, 0, 2, MELLANSKO_RECORD, 7, 16, 2, MELLANSKO_GATHERED, 0, 16, 1, 7);
 }
 
 /* A byte that is not zero interrupts an open record at once; the trailer waits for its end. */
@@ -394,7 +400,7 @@ static void fed_dirty_trailer(void)
     lent_feed.feed.place = lent_feed.feed.came = start - HEADER;
     TAKE(start - HEADER, HEADER + 2, MELLANSKO_TAKEN, HEADER + 2);
     FEED_NEXT(3, 0, 0, MELLANSKO_NOT_YET);
-    FEED(3, start, start + 2, 0, 1, start - HEADER);
+    FEED(3, start, start + 2, 0, 1, start - HEADER, 0, 0, 1, start - HEADER);
     TAKE(start + 2, 1, MELLANSKO_TAKEN, 1);
     FEED_NEXT(3, 0, 0, MELLANSKO_SKIP, start - HEADER, start, MELLANSKO_INTERRUPTED, 0, 0, start);
     FEED_NEXT(3, 0, 0, MELLANSKO_NOT_YET);
@@ -402,6 +408,49 @@ static void fed_dirty_trailer(void)
     TAKE(start + 3, 3, MELLANSKO_TAKEN, 3);
     FEED_NEXT(3, 0, 0, MELLANSKO_SKIP, start, block, MELLANSKO_DIRTY_TRAILER, 0, 0, block);
     FEED(3, block, block);
+}
+
+/* Of an open record both numbers are in the feed, of its last fragment so far, empty or not. */
+static void fed_fragments(void)
+{
+    put(10, 2, 1);
+    put(18, 3, 2);
+    put(27, 3, 0);
+    put(34, 4, 0);
+    BEGIN(3, MELLANSKO_BEGUN);
+    TAKE(10, 17, MELLANSKO_TAKEN, 17);
+    FEED_NEXT(3, 0, 3, MELLANSKO_NOT_YET);
+    FEED(3, 17, 17, 0, 1, 0, 3, 0, 2, 8);
+    TAKE(27, 7, MELLANSKO_TAKEN, 7);
+    FEED_NEXT(3, 0, 0, MELLANSKO_NOT_YET);
+    FEED(3, 24, 24, 0, 1, 0, 3, 0, 3, 17);
+    TAKE(34, 7, MELLANSKO_TAKEN, 7);
+    FEED_NEXT(3, 0, 0, MELLANSKO_RECORD, 0, 31, 3, MELLANSKO_GATHERED, 0, 31, 4, 24);
+    FEED(3, 31, 31);
+}
+
+/* A feed that is made up is gone on from if its numbers fit; with one more or less they do not. */
+static void fed_made_up(void)
+{
+    const struct mellansko_feed fits = {3, 30, 30, 0, 1, 2, 0, 0, 4, 23};
+    struct mellansko_feed *feed = &lent_feed.feed;
+    put(10, 4, 2);
+    BEGIN(3, MELLANSKO_BEGUN);
+    *feed = fits;
+    TAKE(10, 9, MELLANSKO_TAKEN, 9);
+    FEED_NEXT(3, 0, 2, MELLANSKO_RECORD, 2, 39, 2, MELLANSKO_GATHERED, 0, 39, 5, 30);
+    *feed = fits, feed->fragments = 5;
+    TAKE(10, 9, MELLANSKO_TAKE_REFUSED, MELLANSKO_UNFIT);
+    *feed = fits, feed->fragments = 0;
+    FEED_NEXT(3, 0, 0, MELLANSKO_NEXT_REFUSED, MELLANSKO_UNFIT);
+    *feed = fits, feed->last_header = 24;
+    FEED_NEXT(3, 0, 0, MELLANSKO_NEXT_REFUSED, MELLANSKO_UNFIT);
+    *feed = fits, feed->last_header = 1;
+    FEED_NEXT(3, 0, 0, MELLANSKO_NEXT_REFUSED, MELLANSKO_UNFIT);
+    BEGIN(3, MELLANSKO_BEGUN);
+    feed->fragments = 1;
+    mellansko_feed_end(feed);
+    FEED(3, 0, 0, 0, 0, 0, 0, 0, 1);
 }
 
 /* A torn tail, and a piece that is longer than a block. */
@@ -425,7 +474,7 @@ static void refused_feeds(void)
 {
     const size_t limit = RECORD;
     BEGIN(MELLANSKO_LONGEST_RECORD + 1, MELLANSKO_BEGIN_REFUSED, MELLANSKO_LIMIT_TOO_HIGH);
-    CHECK(lent_feed.feed.limit == UINT64_MAX && lent_feed.feed.later[1] == UINT64_MAX);
+    CHECK(lent_feed.feed.limit == UINT64_MAX && lent_feed.feed.last_header == UINT64_MAX);
     BEGIN(limit, MELLANSKO_BEGUN);
     TAKE(0, 9, MELLANSKO_TAKEN, 9);
     mellansko_feed_end(&lent_feed.feed);
@@ -497,6 +546,8 @@ int main(void)
     feeding();
     fed_empty_start();
     fed_dirty_trailer();
+    fed_fragments();
+    fed_made_up();
     fed_to_the_end();
     refused_feeds();
     mending();
