@@ -196,6 +196,7 @@ fn with_a_record_open() {
         panic!("a record");
     };
     assert_eq!((record.start, record.end, &*bytes), (9, 29, &b"LW10-1"[..]));
+    assert_eq!((record.fragments, record.last_header), (2, 20));
     assert_eq!((feed.place(), feed.came()), (29, 29));
 }
 

@@ -36,12 +36,14 @@ mod random;
 mod starts;
 #[path = "feed_compare/states.rs"]
 mod states;
+#[path = "feed_compare/stored.rs"]
+mod stored;
 #[path = "compare/trailers.rs"]
 mod trailers;
 #[path = "feed_compare/words.rs"]
 mod words;
 
-use made::{Dirty, Made};
+use made::{Dirty, Made, Several};
 use random::Random;
 
 /// Compares on one kind of inputs, and gives how much was compared.
@@ -78,6 +80,13 @@ fn on_fragments_as_no_writer_puts_them() {
             open_and_empty: 35,
             cut: 8,
             ..Dirty::default()
+        })
+        .has_met_several(Several {
+            all: 400,
+            short: 400,
+            empty: 25,
+            trailers: 4,
+            after_broken: 20,
         });
 }
 
@@ -116,7 +125,25 @@ fn on_states_that_are_made_up() {
             open_and_empty: 80,
             cut: 200,
             ..Dirty::default()
+        })
+        .has_met_several(Several {
+            all: 200,
+            short: 100,
+            empty: 80,
+            trailers: 100,
+            after_broken: 4,
         });
+}
+
+#[test]
+fn on_how_an_open_record_was_stored() {
+    compare(stored::all, 80_000).has_met_several(Several {
+        all: 100,
+        short: 80,
+        empty: 50,
+        trailers: 50,
+        ..Several::default()
+    });
 }
 
 #[test]

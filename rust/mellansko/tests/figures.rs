@@ -113,6 +113,10 @@ fn of_the_longest_record_in_129_fragments() {
     assert_eq!(mellansko::append(&mut log, 0, &record), Ok(4_195_207));
     assert_eq!(log.len(), 4_195_207);
     assert!(mellansko::records(&log).expect("a whole log") == [&record[..]]);
+    let Some(Answer::Record { record, .. }) = Reading::of(&log).expect("no refusal").next() else {
+        panic!("a record");
+    };
+    assert_eq!((record.fragments, record.last_header), (129, 4_194_304));
 }
 
 /// §15.2, the last lines.

@@ -5,7 +5,7 @@ mod expected;
 mod random;
 mod strict;
 
-use compare::Dirty;
+use compare::{Dirty, Several};
 use mellansko::numbers::{self, Numbers};
 use strict::Strict;
 
@@ -40,11 +40,19 @@ fn on_100_000_calls() {
     let calls = made.calls;
     println!("{calls} calls compared");
     assert!(calls >= 100_000, "only {calls} calls compared");
-    made.has_met(5_000, 5_000).has_met_dirty(Dirty {
-        all: 5_000,
-        open: 900,
-        open_and_empty: 500,
-        cut: 200,
-        made_up: 3_000,
-    });
+    made.has_met(5_000, 5_000)
+        .has_met_dirty(Dirty {
+            all: 5_000,
+            open: 900,
+            open_and_empty: 500,
+            cut: 200,
+            made_up: 3_000,
+        })
+        .has_met_several(Several {
+            all: 4_000,
+            short: 2_000,
+            empty: 250,
+            trailers: 150,
+            after_broken: 150,
+        });
 }

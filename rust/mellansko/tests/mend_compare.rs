@@ -44,7 +44,7 @@ mod trailers;
 mod words;
 
 use both::Both;
-use made::{Dirty, Made};
+use made::{Dirty, Made, Several};
 
 /// Compares on one kind of inputs, so many calls at least.
 fn compare(part: fn(&mut Both), at_least: usize) -> Made {
@@ -121,6 +121,13 @@ fn on_what_gathering_leaves_in_the_buffer() {
             all: 15,
             open: 12,
             ..Dirty::default()
+        })
+        .has_met_several(Several {
+            all: 4_000,
+            short: 4_000,
+            empty: 900,
+            trailers: 30,
+            after_broken: 200,
         });
 }
 

@@ -51,6 +51,33 @@ fn in_a_set() {
     assert_eq!(errors.len(), 3);
 }
 
+/// Records are the same only if all of their numbers are: those of how they were stored too.
+#[test]
+fn number_by_number() {
+    let log = log();
+    let Ok((Next::Record(record), _)) = mellansko::next(&log, 0, 6, &mut [0; 6]) else {
+        panic!("a record");
+    };
+    let changes: [fn(&mut Record); 6] = [
+        |record| record.start += 1,
+        |record| record.end += 1,
+        |record| record.length += 1,
+        |record| record.stored = Stored::Gathered,
+        |record| record.fragments += 1,
+        |record| record.last_header += 1,
+    ];
+    let mut all = HashSet::from([record, record]);
+    for change in changes {
+        let mut other = record;
+        change(&mut other);
+        assert_ne!(other, record);
+        all.insert(other);
+    }
+    assert_eq!(all.len(), 7);
+    let shown = format!("{record:?}");
+    assert!(shown.ends_with("fragments: 1, last_header: 0 }"), "{shown}");
+}
+
 #[test]
 fn in_order() {
     let rise = |numbers: Vec<u8>| assert!(numbers.is_sorted(), "{numbers:?}");

@@ -1,6 +1,10 @@
 //! How much was compared.
 
+#[path = "several.rs"]
+mod several;
+
 use reference::log::{Next, BLOCK, HEADER};
+pub use several::Several;
 use std::ops::AddAssign;
 
 const INTERRUPTED: u8 = 4;
@@ -13,6 +17,7 @@ pub struct Made {
     pub calls: usize,
     reasons: [usize; 10],
     dirty: Dirty,
+    several: Several,
     /// The last range that was skipped, if it is a record that breaks off: where it starts and ends.
     broken: Option<(usize, usize)>,
 }
@@ -31,6 +36,21 @@ pub struct Dirty {
 }
 
 impl Made {
+    /// An answer was given.
+    pub fn answered(&mut self, answer: &Next) {
+        match *answer {
+            Next::Record {
+                start,
+                end,
+                length,
+                fragments,
+                ..
+            } => self.handed_out(start, end, length, fragments),
+            Next::Skip { start, end, reason } => self.skipped(start, end, reason),
+            Next::End(_) | Next::Refused { .. } => {}
+        }
+    }
+
     /// A skipped range was answered.
     pub fn skipped(&mut self, start: usize, end: usize, reason: u8) {
         self.reasons[usize::from(reason)] += 1;
@@ -46,6 +66,15 @@ impl Made {
             };
         }
         self.broken = (reason == INTERRUPTED).then_some((start, end));
+    }
+
+    /// A record of so many bytes and fragments was answered.
+    pub fn handed_out(&mut self, start: usize, end: usize, length: usize, fragments: usize) {
+        let mut several = Several::of(start, end, length, fragments);
+        if self.broken.is_some_and(|(_, broken_at)| broken_at == start) {
+            several.after_broken = several.all;
+        }
+        self.several += several;
     }
 
     /// The last call was made at a place that was made up.
@@ -66,7 +95,7 @@ impl Made {
     }
 
     /// Nor would those without dirty trailers, in each of the cases.
-    pub fn has_met_dirty(&self, least: Dirty) {
+    pub fn has_met_dirty(&self, least: Dirty) -> &Made {
         let met = self.dirty;
         println!("{met:?}");
         let enough = met.all >= least.all
@@ -75,6 +104,14 @@ impl Made {
             && met.cut >= least.cut
             && met.made_up >= least.made_up;
         assert!(enough, "{met:?}, and not {least:?}");
+        self
+    }
+
+    /// Nor would those without records of several fragments, in each of the layouts.
+    pub fn has_met_several(&self, least: Several) {
+        let met = self.several;
+        println!("{met:?}");
+        assert!(met.are_enough(least), "{met:?}, and not {least:?}");
     }
 }
 
@@ -95,6 +132,7 @@ impl AddAssign for Made {
             *sum += more;
         }
         self.dirty += other.dirty;
+        self.several += other.several;
         self.broken = None;
     }
 }

@@ -22,7 +22,7 @@ mod words;
 use crate::random::Random;
 use crate::strict::{self, Strict};
 use lent::Lent;
-pub use made::{Dirty, Made};
+pub use made::{Dirty, Made, Several};
 use reference::log::{append, next, record_bytes, Appended, Next};
 use reference::log::{BLOCK, HEADER, LONGEST_RECORD};
 
@@ -94,9 +94,7 @@ impl Comparison<'_> {
             .next(log.tested(), place, limit, buffer.tested_mut());
         let answer = next(log.expected(), place, limit, buffer.expected_mut());
         self.made.calls += 1;
-        if let Next::Skip { start, end, reason } = answer {
-            self.made.skipped(start, end, reason);
-        }
+        self.made.answered(&answer);
         let call = || {
             let (log, buffer) = (log.len(), buffer.len());
             self.name(&format!(

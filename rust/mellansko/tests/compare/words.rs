@@ -18,12 +18,24 @@ pub fn of_next(answer: Next, log: &[u8]) -> [u64; 10] {
             end,
             length,
             stored,
+            fragments,
+            last_header,
         } => {
             let (gathered, place) = match stored {
                 Stored::Whole(place) => (0, place),
                 Stored::Gathered => (1, 0),
             };
-            words(&[0, start, end, length, gathered, place, on])
+            words(&[
+                0,
+                start,
+                end,
+                length,
+                gathered,
+                place,
+                on,
+                fragments,
+                last_header,
+            ])
         }
         Next::Skip { start, end, reason } => words(&[1, start, end, usize::from(reason), 0, 0, on]),
         Next::End(Tail::Clean) => words(&[2, 0, 0, 0, 0, 0, on]),

@@ -35,6 +35,8 @@ pub fn next_of(answer: Next) -> log::Next {
                 Stored::Whole(place) => log::Stored::Whole(place),
                 Stored::Gathered => log::Stored::Gathered,
             },
+            fragments: record.fragments,
+            last_header: record.last_header,
         },
         Next::Skip(skip) => log::Next::Skip {
             start: skip.start,

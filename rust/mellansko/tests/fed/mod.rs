@@ -6,7 +6,8 @@
 use crate::expected::next_of;
 use crate::random::Random;
 use mellansko::{Answer, Feed, Next};
-use reference::log::{self, fragment, Stored, BLOCK, FIRST, FULL, LAST, LONGEST_RECORD, MIDDLE};
+use reference::log::LONGEST_RECORD;
+use reference::log::{self, fragment, Stored, BLOCK, FIRST, FULL, HEADER, LAST, MIDDLE};
 
 /// An answer in the reference's types, with a record's bytes.
 pub type Told = (log::Next, Vec<u8>);
@@ -85,7 +86,9 @@ pub fn logs(random: &mut Random) -> Vec<(Vec<u8>, usize)> {
 
 /// A log of records of these lengths.
 pub fn written(random: &mut Random, lengths: &[usize]) -> Vec<u8> {
-    let mut log = vec![0; lengths.iter().sum::<usize>() + 200];
+    // Room for a trailer before each record, and for every header.
+    let room = lengths.iter().map(|n| n + HEADER * (n / BLOCK + 4));
+    let mut log = vec![0; room.sum()];
     let mut mark = 0;
     for &length in lengths {
         let record = random.bytes(length);

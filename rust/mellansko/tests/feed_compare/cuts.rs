@@ -43,9 +43,11 @@ fn short() -> Vec<Vec<u8>> {
 /// A log whose first byte is at this place, with or without an empty record open there.
 fn every_cut(log: &[u8], place: usize, open: bool, limit: u64, random: &mut Random) -> Made {
     let mut pair = Pair::begun(limit as usize, random);
+    // The header of the one fragment that it has is where it started.
     let start = if open { place - HEADER } else { 0 };
     let [place, start] = [place, start].map(|number| number as u64);
-    let begun = [limit, place, place, 0, open.into(), start, 0, 0, 5, 6];
+    let open = u64::from(open);
+    let begun = [limit, place, place, 0, open, start, 0, 0, open, start];
     for cuts in 0..1u32 << (log.len() - 1) {
         pair.state = Words::new(begun);
         let mut from = 0;

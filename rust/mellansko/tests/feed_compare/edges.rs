@@ -56,7 +56,7 @@ fn lengths(random: &mut Random) -> Made {
             for (over, opened) in [(0, 0), (1, 0), (0, 2), (1, 2)] {
                 for place in [came, came.saturating_sub(1), 0] {
                     let [place, came] = [place, came].map(|number| number as u64);
-                    pair.state = Words::new([0, place, came, over, opened, 0, 0, 0, 1, 2]);
+                    pair.state = Words::new([0, place, came, over, opened, 0, 0, 0, 0, 0]);
                     pair.take_lent(&piece);
                     pair.end();
                     pair.next();

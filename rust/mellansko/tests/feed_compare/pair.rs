@@ -9,6 +9,7 @@ use reference::feed::{begin_words, end_words, next_words, take_words, Block};
 use reference::log::BLOCK;
 
 /// Kinds of the next answer (docs/FORMAT.md, §10.1, §11.14).
+pub const RECORD: u64 = 0;
 pub const SKIPPED: u64 = 1;
 pub const END: u64 = 2;
 pub const NOT_YET: u64 = 4;
@@ -86,12 +87,20 @@ impl Pair {
         let kind = feed::next(self.state.tested(), block, buffer, answer.tested());
         let block = self::block(self.block.expected());
         let expected = next_words(self.state.expected(), block, self.buffer.expected_mut());
-        if let [SKIPPED, start, end, reason, ..] = expected {
-            self.made
-                .skipped(start as usize, end as usize, reason as u8);
-        }
+        self.note(expected);
         let call = format!("next with a buffer of {}", self.buffer.len());
         self.same(&call, before, kind, answer, expected)
+    }
+
+    /// Notes what was answered.
+    fn note(&mut self, answer: [u64; 10]) {
+        let [kind, rest @ ..] = answer;
+        let [start, end, third, .., fragments, _, _] = rest.map(|word| word as usize);
+        match kind {
+            RECORD => self.made.handed_out(start, end, third, fragments),
+            SKIPPED => self.made.skipped(start, end, third as u8),
+            _ => {}
+        }
     }
 
     /// Both answers, and all that is lent, are the same.
@@ -123,11 +132,6 @@ impl Pair {
     pub fn begun(limit: usize, random: &mut Random) -> Pair {
         let mut pair = Pair::new(limit + random.below(3), random);
         pair.begin(limit as u64);
-        // Nobody reads or changes the two words that are left for later.
-        let state = pair.state.get();
-        let [.., first, second] = Words::new([(); 10].map(|()| random.next())).get();
-        let [a, b, c, d, e, f, g, h, ..] = state;
-        pair.state = Words::new([a, b, c, d, e, f, g, h, first, second]);
         pair
     }
 

@@ -21,7 +21,7 @@ pub fn all(random: &mut Random) -> Made {
         for _ in 0..400 {
             let mut state = fitting(most, random);
             for _ in 0..random.below(3) {
-                state[random.below(8)] = other(&state, random);
+                state[random.below(10)] = other(&state, random);
             }
             if random.below(50) == 0 {
                 state = [(); 10].map(|()| edge(random));
@@ -43,18 +43,31 @@ fn fitting(most: usize, random: &mut Random) -> [u64; 10] {
     let end = LONGEST_LOG.min(start + BLOCK);
     let place = between(start, end.max(start + 1) - 1, random);
     let came = between(place, end, random);
-    let (mut opened, mut start, mut length, mut bad) = (0, 0, 0, 0);
-    if random.below(2) == 0 && place >= HEADER {
-        opened = 1;
-        length = between(0, limit.min(place - HEADER), random);
-        start = between(0, place - HEADER - length, random);
-    } else if came >= place + HEADER {
-        bad = random.below(4);
-    }
     let over = random.below(2);
-    let state = [limit, place, came, over, opened, start, length, bad];
-    let [a, b, c, d, e, f, g, h] = state.map(|number| number as u64);
-    [a, b, c, d, e, f, g, h, random.next(), random.next()]
+    let rest = if random.below(2) == 0 && place >= HEADER {
+        open(limit, place, random)
+    } else if came >= place + HEADER {
+        [0, 0, 0, random.below(4), 0, 0]
+    } else {
+        [0; 6]
+    };
+    let state = [limit, place, came, over].into_iter().chain(rest);
+    let state: Vec<u64> = state.map(|number| number as u64).collect();
+    state.try_into().expect("ten numbers")
+}
+
+/// The numbers from opened on, of a record that is open at this place. Often it has one fragment, as
+/// each has at first; else up to as many as there is room for, of which the last starts anywhere.
+fn open(limit: usize, place: usize, random: &mut Random) -> [usize; 6] {
+    let length = between(0, limit.min(place - HEADER), random);
+    let most = (place - length) / HEADER;
+    let fragments = match random.below(2) {
+        0 => 1,
+        _ => between(1, most, random),
+    };
+    let start = between(0, place - HEADER * fragments - length, random);
+    let last_header = between(start, place - HEADER, random);
+    [1, start, length, 0, fragments, last_header]
 }
 
 /// A number in this range, often the first or the last, or near them.
@@ -71,7 +84,7 @@ fn between(first: usize, last: usize, random: &mut Random) -> usize {
 
 /// Something else for one of the numbers: near it, or near another, or an edge.
 fn other(state: &[u64; 10], random: &mut Random) -> u64 {
-    let number = state[random.below(8)];
+    let number = state[random.below(10)];
     match random.below(4) {
         0 => number.wrapping_add(1),
         1 => number.wrapping_sub(1),

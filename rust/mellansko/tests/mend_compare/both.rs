@@ -6,7 +6,6 @@ use crate::random::Random;
 use crate::words::Words;
 use mellansko::numbers;
 use reference::feed::reading;
-use reference::log::Next;
 use reference::mend::mend_words;
 
 /// Kinds of the answer (docs/FORMAT.md, §12.10).
@@ -15,7 +14,7 @@ pub const REFUSED: u64 = 1;
 
 pub struct Both {
     pub random: Random,
-    /// The calls that were compared, and the reasons of the logs that were examined.
+    /// The calls that were compared, and what the logs that were examined had in them.
     pub made: Made,
 }
 
@@ -78,9 +77,7 @@ impl Both {
     /// less: a byte, some, and all of them. The buffer is as long as the limit, or a little longer.
     pub fn examine(&mut self, bytes: &[u8], limit: usize) {
         for answer in reading(bytes, limit) {
-            if let Next::Skip { start, end, reason } = answer {
-                self.made.skipped(start, end, reason);
-            }
+            self.made.answered(&answer);
         }
         let bad = Lent::new(bytes, &mut self.random);
         let [_, length, ..] = self.into(&bad, bytes.len(), limit, MENDED);
