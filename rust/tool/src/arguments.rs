@@ -25,10 +25,13 @@ pub enum Command {
     Dump {
         source: Source,
         limit: usize,
+        /// Whether the lines say how records were stored.
+        long: bool,
     },
     Follow {
         file: OsString,
         limit: usize,
+        long: bool,
     },
     Map {
         source: Source,
@@ -58,7 +61,8 @@ pub fn parse(words: impl Iterator<Item = OsString>) -> Result<Command, Trouble> 
     match first.to_str() {
         Some("verify") => Given::of("verify", help::VERIFY, &["--all"], rest)?.command(verify),
         Some("dump") => {
-            Given::of("dump", help::DUMP, &["--limit", "--follow"], rest)?.command(dump)
+            let options = ["--limit", "--long", "--follow"];
+            Given::of("dump", help::DUMP, &options, rest)?.command(dump)
         }
         Some("map") => Given::of("map", help::MAP, &["--blocks", "--color"], rest)?.command(map),
         Some("cat") => Given::of("cat", help::CAT, &[], rest)?.command(cat),
@@ -122,14 +126,19 @@ fn dump(mut given: Given) -> Result<Command, Trouble> {
         Some(value) => given.number("--limit", value)?,
         None => LONGEST_RECORD,
     };
+    let long = given.value("--long").is_some();
     let follow = given.value("--follow").is_some();
     let [file] = given.only("one file")?;
     match source(&given, file)? {
-        Source::File(file) if follow => Ok(Command::Follow { file, limit }),
+        Source::File(file) if follow => Ok(Command::Follow { file, limit, long }),
         Source::StandardInput if follow => Err(given.wrong(
             "--follow wants a file's name; standard input is listed as it comes without it",
         )),
-        source => Ok(Command::Dump { source, limit }),
+        source => Ok(Command::Dump {
+            source,
+            limit,
+            long,
+        }),
     }
 }
 

@@ -132,7 +132,7 @@ Exit status:
 ";
 
 pub const DUMP: &str = "\
-mellansko dump [--limit N] [--follow] FILE
+mellansko dump [--limit N] [--long] [--follow] FILE
 
 Lists all that is in a journal in its order, one line each, with plain numbers:
 
@@ -154,6 +154,9 @@ Refusals:
   5   the limit is more than {RECORD}
 
   --limit N   skip records of more than N bytes, for reason 7; if not given, N is {RECORD}
+  --long      say of each record how it was stored, in two numbers more: R START END LENGTH \
+FRAGMENTS HEADER. The first is how many pieces it was read from, and the second the place where the \
+last of them starts, with its header
   --follow    go on as the file grows, until you end it, with Ctrl-C
 
 Each line is written as soon as no byte that may still come can change it, so a journal can be watched as it comes, on \

@@ -67,8 +67,12 @@ fn run() -> Result<Status, Trouble> {
             Status::Done
         }
         Command::Verify { sources, all } => commands::verify(&sources, all, &mut output)?,
-        Command::Dump { source, limit } => commands::dump(&source, limit, &mut output)?,
-        Command::Follow { file, limit } => commands::follow(&file, limit, &mut output)?,
+        Command::Dump {
+            source,
+            limit,
+            long,
+        } => commands::dump(&source, limit, long, &mut output)?,
+        Command::Follow { file, limit, long } => commands::follow(&file, limit, long, &mut output)?,
         Command::Map {
             source,
             blocks,

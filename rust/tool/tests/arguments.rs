@@ -94,7 +94,7 @@ fn no_command_gives_help_as_a_complaint() {
 }
 
 /// Bad arguments, and what the message says of them.
-const BAD: [(&[&str], &[&str]); 56] = [
+const BAD: [(&[&str], &[&str]); 67] = [
     (
         &["vrify", "x"],
         &[
@@ -171,6 +171,26 @@ const BAD: [(&[&str], &[&str]); 56] = [
         &["verify", "--follow", "x"],
         &["verify", "no option --follow"],
     ),
+    (&["dump", "--long"], &["dump", "one file", "0"]),
+    (&["dump", "--long", "x", "y"], &["dump", "one file", "2"]),
+    (
+        &["dump", "--long=yes", "x"],
+        &["dump", "--long", "no value"],
+    ),
+    (
+        &["dump", "--long", "--long", "x"],
+        &["dump", "--long", "twice"],
+    ),
+    (&["dump", "-l", "x"], &["dump", "no option -l"]),
+    (
+        &["dump", "--long", "--follow", "-"],
+        &["dump", "--follow", "file's name", "standard input"],
+    ),
+    (&["verify", "--long", "x"], &["verify", "no option --long"]),
+    (&["map", "--long", "x"], &["map", "no option --long"]),
+    (&["cat", "--long", "x", "1"], &["cat", "no option --long"]),
+    (&["append", "--long", "x"], &["append", "no option --long"]),
+    (&["mend", "--long", "x", "y"], &["mend", "no option --long"]),
     (&["map"], &["map", "one file", "0"]),
     (&["map", "x", "y"], &["map", "one file", "2"]),
     (

@@ -36,5 +36,5 @@ fn the_readme_shows_what_the_tool_says() {
         assert_eq!((ran.text(), ran.err.as_str()), (says, ""), "{line}");
         shown += 1;
     }
-    assert_eq!(shown, 3, "blocks that show the tool");
+    assert_eq!(shown, 4, "blocks that show the tool");
 }

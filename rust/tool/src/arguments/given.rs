@@ -8,7 +8,7 @@ use crate::wrap::tied;
 use std::ffi::{OsStr, OsString};
 
 /// The options that take no value.
-const SWITCHES: [&str; 3] = ["--new", "--all", "--follow"];
+const SWITCHES: [&str; 4] = ["--new", "--all", "--long", "--follow"];
 
 pub struct Given {
     command: &'static str,

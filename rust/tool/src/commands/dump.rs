@@ -12,11 +12,17 @@ use crate::output::Output;
 use crate::progress::Progress;
 use crate::trouble::Trouble;
 use crate::Status;
-use mellansko::{Answer, NotRead, Refusal, Tail};
-use std::fmt::Write;
+use mellansko::{Answer, NotRead, Record, Refusal, Tail};
+use std::fmt::{self, Write};
 use std::io::Read;
 
-pub fn dump(source: &Source, limit: usize, output: &mut Output) -> Result<Status, Trouble> {
+/// Long lines say of a record how it was stored, too.
+pub fn dump(
+    source: &Source,
+    limit: usize,
+    long: bool,
+    output: &mut Output,
+) -> Result<Status, Trouble> {
     let mut progress = Progress::new();
     let mut fed = match source.fed(limit, &mut progress) {
         Ok(fed) => fed,
@@ -27,7 +33,7 @@ pub fn dump(source: &Source, limit: usize, output: &mut Output) -> Result<Status
     };
     let mut status = Status::Done;
     loop {
-        let listed = list(&mut fed, output)?;
+        let listed = list(&mut fed, long, output)?;
         status = status.max(listed.status);
         if listed.ended {
             return Ok(status);
@@ -52,7 +58,7 @@ struct Listed {
 }
 
 /// Writes a line for each answer that is certain, and has them read before anything is waited for.
-fn list(fed: &mut Fed<impl Read>, output: &mut Output) -> Result<Listed, Trouble> {
+fn list(fed: &mut Fed<impl Read>, long: bool, output: &mut Output) -> Result<Listed, Trouble> {
     let mut listed = Listed {
         status: Status::Done,
         ended: false,
@@ -65,7 +71,7 @@ fn list(fed: &mut Fed<impl Read>, output: &mut Output) -> Result<Listed, Trouble
         if Doubt::by(&answer, came).is_some() {
             listed.status = Status::Doubt;
         }
-        put(&answer, &mut line);
+        put(&answer, long, &mut line);
         fed.make_way();
         output.line(&line)?;
     }
@@ -74,12 +80,10 @@ fn list(fed: &mut Fed<impl Read>, output: &mut Output) -> Result<Listed, Trouble
 }
 
 /// Puts an answer into words, in place of the last one.
-fn put(answer: &Answer, line: &mut String) {
+fn put(answer: &Answer, long: bool, line: &mut String) {
     line.clear();
     let written = match answer {
-        Answer::Record { record, .. } => {
-            write!(line, "R {} {} {}", record.start, record.end, record.length)
-        }
+        Answer::Record { record, .. } => put_record(record, long, line),
         Answer::Skip(skip) => {
             let reason = skip.reason.number();
             write!(line, "S {} {} {reason}", skip.start, skip.end)
@@ -88,6 +92,14 @@ fn put(answer: &Answer, line: &mut String) {
         Answer::End(Tail::Torn(start)) => write!(line, "E torn {start}"),
     };
     written.expect("a text takes all that is written");
+}
+
+fn put_record(record: &Record, long: bool, line: &mut String) -> fmt::Result {
+    write!(line, "R {} {} {}", record.start, record.end, record.length)?;
+    match long {
+        true => write!(line, " {} {}", record.fragments, record.last_header),
+        false => Ok(()),
+    }
 }
 
 /// The last line, for programs, and the message, for people, who get it whatever the output is.

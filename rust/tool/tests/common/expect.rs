@@ -138,6 +138,13 @@ pub fn dumped(log: &[u8], limit: usize) -> String {
     lines
 }
 
+/// What `dump --long` is to write.
+pub fn dumped_long(log: &[u8], limit: usize) -> String {
+    let mut lines = String::new();
+    each_answer(log, limit, |answer, _| lines += &long_line(answer));
+    lines
+}
+
 /// The status of a `dump` that writes these lines up to the end.
 pub fn status_of_dump(lines: &str) -> i32 {
     let skips = lines.lines().filter(|line| line.starts_with('S'));
@@ -150,6 +157,11 @@ pub fn certain(came: &[u8], limit: usize) -> String {
     earliest(came, limit).iter().map(line).collect()
 }
 
+/// What `dump --long` is to have written of it.
+pub fn certain_long(came: &[u8], limit: usize) -> String {
+    earliest(came, limit).iter().map(long_line).collect()
+}
+
 fn line(answer: &Next) -> String {
     match *answer {
         Next::Record {
@@ -159,6 +171,20 @@ fn line(answer: &Next) -> String {
         Next::End(Tail::Clean) => "E clean\n".into(),
         Next::End(Tail::Torn(start)) => format!("E torn {start}\n"),
         Next::Refused { number, .. } => format!("X {number}\n"),
+    }
+}
+
+/// A record's has two numbers more: how many fragments it was read from, and where the last of them
+/// starts (§16.1).
+fn long_line(answer: &Next) -> String {
+    let line = line(answer);
+    match *answer {
+        Next::Record {
+            fragments,
+            last_header,
+            ..
+        } => format!("{} {fragments} {last_header}\n", line.trim_end()),
+        _ => line,
     }
 }
 

@@ -94,7 +94,17 @@ impl Live {
     }
 
     /// Hands bytes on one after the other, and after each holds what has come to what is certain.
-    pub fn in_drops(&mut self, log: &[u8], mut drop: impl FnMut(&mut Live, &[u8])) {
+    pub fn in_drops(&mut self, log: &[u8], drop: impl FnMut(&mut Live, &[u8])) {
+        self.in_drops_by(certain, log, drop);
+    }
+
+    /// The same, in lines of another kind.
+    pub fn in_drops_by(
+        &mut self,
+        certain: fn(&[u8], usize) -> String,
+        log: &[u8],
+        mut drop: impl FnMut(&mut Live, &[u8]),
+    ) {
         for came in 1..=log.len() {
             let before = certain(&log[..came - 1], 4_194_304);
             let after = certain(&log[..came], 4_194_304);

@@ -16,7 +16,12 @@ const PAUSE: Duration = Duration::from_millis(100);
 
 /// Nothing is announced, so no end is told: what the file ends in may be a record that is being
 /// written.
-pub fn follow(path: &OsStr, limit: usize, output: &mut Output) -> Result<Status, Trouble> {
+pub fn follow(
+    path: &OsStr,
+    limit: usize,
+    long: bool,
+    output: &mut Output,
+) -> Result<Status, Trouble> {
     let source = Source::File(path.into());
     let begun = Grown::open(path).and_then(|file| Ok((file, Feed::with_limit(limit)?)));
     let (file, feed) = match begun {
@@ -28,7 +33,7 @@ pub fn follow(path: &OsStr, limit: usize, output: &mut Output) -> Result<Status,
     };
     let mut fed = Fed::new(file, path, feed, None);
     loop {
-        list(&mut fed, output)?;
+        list(&mut fed, long, output)?;
         match fed.read() {
             Ok([]) => output.wait(PAUSE)?,
             Ok(_) => {}
