@@ -68,7 +68,7 @@ fn on_journals_damaged() {
     compare(logs::damaged, 1_000)
         .has_met(15, 8)
         .has_met_dirty(Dirty {
-            all: 3,
+            all: 1,
             ..Dirty::default()
         });
 }
