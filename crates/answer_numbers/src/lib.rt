@@ -1,4 +1,6 @@
 // docs/FORMAT.md, §10.1: answers as ten numbers. log_format's specs/Format/Numbers.antt says which.
+#![tactic(auto)]
+
 ghost use Rattle.std.specs.Prelude.{◌≡◌};
 ghost use Rattle.log_format.specs.Format.Numbers as numbers;
 

@@ -1,1 +1,4 @@
+pub mod Xor
+pub mod Laws
+pub mod Theorems
 pub mod Tables

@@ -1,4 +1,6 @@
 // docs/FORMAT.md, §11.14: a fed reader's state and answers as ten numbers. feed_format's specs/Format/Numbers.antt says which.
+#![tactic(auto)]
+
 ghost use Rattle.std.specs.Prelude.{◌≡◌};
 ghost use Rattle.feed_format.specs.Format.Numbers as numbers;
 

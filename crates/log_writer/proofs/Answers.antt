@@ -11,10 +11,10 @@ use Rattle.log_format.specs.Format.Fragment.{Edition, header}
 use Rattle.log_format.specs.Format.Writing.{pad, added, size_added}
 use Rattle.log_format.specs.Format.Refusals.{writer_says}
 use Rattle.log_format.specs.Format.Calls.{refusal, Append, overwrite, append_by, append_of}
-use Rattle.log_format.specs.Laws.Spelling.{pad_left, body_size, size_long}
-use Rattle.log_format.specs.Laws.Appends.{writer_fits}
+use Rattle.log_format.proofs.Laws.Spelling.{pad_left, body_size, size_long}
+use Rattle.log_format.proofs.Laws.Appends.{writer_fits}
 use Rattle.log_writer.specs.Spelling.{spelling}
-use Rattle.log_format.specs.Laws.Overwrite.{overwrite_length, overwrite_more}
+use Rattle.log_format.proofs.Laws.Overwrite.{overwrite_length, overwrite_more}
 
 -- an append gives the answer a and leaves l
 abbrev Gives : Append → Appended → List ℕ → Type 0

@@ -1,5 +1,7 @@
 // The calls for C and Rust. Each only hands on to the call of the crate that does the work, and says its answer in
 // numbers: docs/FORMAT.md, §10.1.
+#![tactic(auto)]
+
 mod feed;
 mod mend;
 

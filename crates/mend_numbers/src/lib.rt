@@ -1,4 +1,6 @@
 // docs/FORMAT.md, §12.10: the answer of mending as ten numbers. mend_format's specs/Format/Numbers.antt says which.
+#![tactic(auto)]
+
 ghost use Rattle.std.specs.Prelude.{◌≡◌};
 ghost use Rattle.mend_format.specs.Format.Numbers.{mended_numbers};
 

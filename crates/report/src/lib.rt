@@ -3,6 +3,8 @@
 // serves run_feed as well.
 //
 // No contract can say what is written. rust/reference has the same steps, and what it writes is what the programs are held to.
+#![tactic(auto)]
+
 mod call;
 mod fill;
 mod line;

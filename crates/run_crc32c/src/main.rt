@@ -1,5 +1,7 @@
 // Writes the checksum and the masked checksum of RFC 3720's vectors (appendix B.4), of "123456789", and of that text after each of
 // the four type bytes; then the checksum of each vector in two goes and in three, cut at every place.
+#![tactic(auto)]
+
 ghost use Rattle.std.specs.Prelude.{◌≤◌, length};
 
 use crc32c::{Crc32c, Mask};

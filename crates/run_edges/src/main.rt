@@ -1,5 +1,7 @@
 // Runs at the edges of the format's rules: sizes, refusals, block ends, and a log inside a record. Each place is written out, so
 // that a step can be checked by hand.
+#![tactic(auto)]
+
 ghost use Rattle.std.specs.Prelude.{◌≤◌};
 
 use log_format::Record;

@@ -1,4 +1,6 @@
 // Writes what is read of the example of the log format's text: whole, cut at two places, and with a byte changed.
+#![tactic(auto)]
+
 ghost use Rattle.std.specs.Prelude.{◌≤◌};
 
 use report::{BufferArray, Length, LogArray, RecordArray};

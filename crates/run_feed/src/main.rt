@@ -1,6 +1,8 @@
 // Reads a log from standard input as it comes, and writes a line for each answer once it is certain: docs/FORMAT.md, §11.
 //
 // No contract can say what is read or written. rust/reference has the same program, and what it writes is what this one is held to.
+#![tactic(auto)]
+
 mod line;
 
 use feed_format::{Began, Feed, Told, Took};

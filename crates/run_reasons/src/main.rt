@@ -1,5 +1,7 @@
 // Runs over the reasons for a skip, 1 to 8, with the limits at 7, over the asking for bytes, and over the fragments of a record
 // that interrupts another. Each place is written out, so that a step can be checked by hand.
+#![tactic(auto)]
+
 use by_hand::fragment;
 use log_layout::Fragment;
 use report::{BufferArray, Length, LogArray, RecordArray};

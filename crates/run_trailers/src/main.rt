@@ -1,5 +1,7 @@
 // Runs over trailers of each length: clean, and with each byte dirty in turn. An append's fragments fill their block, so a trailer
 // inside a record is put by hand.
+#![tactic(auto)]
+
 ghost use Rattle.std.specs.Prelude.{◌≤◌, ◌<◌};
 
 use by_hand::{fragment, zeros};
