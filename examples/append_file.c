@@ -1,7 +1,8 @@
 /*
  * Appends a record, from standard input or from the command line, to a journal in a file.
  *
- *   cc -std=c99 -Iinclude examples/append_file.c target/staticlib/libmellansko.a -o append_file &&
+ *   cc -std=c99 -Iinclude examples/append_file.c crates/mellansko/out/libmellansko.a \
+ *     -o append_file &&
  *   : >new.log && ./append_file new.log 'LW10-1 0.9137' &&
  *   printf 'LW11 0.8412' | ./append_file new.log
  *

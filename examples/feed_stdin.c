@@ -4,7 +4,8 @@
  * how it was stored, each range in doubt and why, each that is skipped without a loss, and how it
  * ends.
  *
- *   cc -std=c99 -Iinclude examples/feed_stdin.c target/staticlib/libmellansko.a -o feed_stdin &&
+ *   cc -std=c99 -Iinclude examples/feed_stdin.c crates/mellansko/out/libmellansko.a \
+ *     -o feed_stdin &&
  *   ./feed_stdin <samples/damaged.log
  *
  * It holds one block and one record in memory, however long the journal is.

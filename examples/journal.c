@@ -2,8 +2,8 @@
  * A race day's journal: written, read back, read with a byte changed, and read after a cut; and one
  * that an early LevelDB writer could have begun.
  *
- *   rt staticlib mellansko &&
- *   cc -std=c99 -Iinclude examples/journal.c target/staticlib/libmellansko.a -o journal &&
+ *   (cd crates/mellansko && rt lib --cpu x86-64) &&
+ *   cc -std=c99 -Iinclude examples/journal.c crates/mellansko/out/libmellansko.a -o journal &&
  *   ./journal
  */
 #include <inttypes.h>

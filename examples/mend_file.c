@@ -2,7 +2,8 @@
  * Mends a journal: writes the records that can be read in the file BAD into a new file NEW, and
  * prints how many bytes that has, and how many of BAD were skipped.
  *
- *   cc -std=c99 -Iinclude examples/mend_file.c target/staticlib/libmellansko.a -o mend_file &&
+ *   cc -std=c99 -Iinclude examples/mend_file.c crates/mellansko/out/libmellansko.a \
+ *     -o mend_file &&
  *   ./mend_file samples/damaged.log mended.log
  *
  * BAD is only read, and no file is written over: there must be none called NEW. If NEW could not be

@@ -2,7 +2,8 @@
  * Reads a journal from a file, and prints what is in it: each record's range, length and how it was
  * stored, each range in doubt and why, each that is skipped without a loss, and how it ends.
  *
- *   cc -std=c99 -Iinclude examples/read_file.c target/staticlib/libmellansko.a -o read_file &&
+ *   cc -std=c99 -Iinclude examples/read_file.c crates/mellansko/out/libmellansko.a \
+ *     -o read_file &&
  *   ./read_file samples/damaged.log
  *
  * It holds all of the file in memory, and a record. examples/feed_stdin.c prints the same of a

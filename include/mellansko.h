@@ -50,10 +50,10 @@
  * two records; whether a block was left out, is there twice, or was replaced by another sound one;
  * whether bytes with a right checksum are those that were written.
  *
- * `rt staticlib mellansko` makes the archive to link with, target/staticlib/libmellansko.a, and
- * `./install PREFIX` installs it with this header. examples/journal.c is a program to start from,
- * examples/append_file.c, examples/read_file.c and examples/mend_file.c are for files, and
- * examples/feed_stdin.c is for what comes over a pipe.
+ * In crates/mellansko `rt lib --cpu x86-64` makes the archive to link with, out/libmellansko.a, and
+ * `./install PREFIX` installs it with this header. It needs nothing but the C library.
+ * examples/journal.c is a program to start from, examples/append_file.c, examples/read_file.c and
+ * examples/mend_file.c are for files, and examples/feed_stdin.c is for what comes over a pipe.
  */
 #ifndef MELLANSKO_H
 #define MELLANSKO_H

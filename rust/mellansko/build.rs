@@ -23,7 +23,7 @@ fn link() -> Result<(), String> {
         Some(path) => ready(path.into())?,
         None => up_to_date()?,
     };
-    // A copy of cargo's own, since `rt ci` removes what the toolchain wrote.
+    // A copy of cargo's own, since `rt ci` takes away what the toolchain wrote.
     let folder = PathBuf::from(env::var_os("OUT_DIR").ok_or("cargo sets OUT_DIR")?);
     let copy = folder.join("libmellansko.a");
     found(fs::copy(&archive, &copy), &archive)?;
@@ -53,15 +53,28 @@ fn ready(archive: PathBuf) -> Result<PathBuf, String> {
 fn up_to_date() -> Result<PathBuf, String> {
     let root = Path::new(env!("CARGO_MANIFEST_DIR")).join("../..");
     let root = found(root.canonicalize(), &root)?;
-    let sources = ["crates", "crates.txt"].map(|source| root.join(source));
+    let sources = sources(&root)?;
     for source in &sources {
         println!("cargo:rerun-if-changed={}", source.display());
     }
-    let archive = root.join("target/staticlib/libmellansko.a");
+    let folder = root.join("crates/mellansko");
+    let archive = folder.join("out/libmellansko.a");
     if !is_newer(&archive, &sources)? {
-        make(&root)?;
+        make(&folder)?;
     }
     Ok(archive)
+}
+
+/// The list of the crates, and the parts of each that the toolchain reads. It writes beside them.
+fn sources(root: &Path) -> Result<Vec<PathBuf>, String> {
+    let mut sources = vec![root.join("crates.txt")];
+    let crates = root.join("crates");
+    for entry in found(fs::read_dir(&crates), &crates)? {
+        let folder = found(entry, &crates)?.path();
+        let parts = ["src", "specs", "proofs"].map(|part| folder.join(part));
+        sources.extend(parts.into_iter().filter(|part| part.exists()));
+    }
+    Ok(sources)
 }
 
 /// Whether the archive is there and no source has changed since it was written.
@@ -90,10 +103,11 @@ fn last_change(path: &Path) -> Result<SystemTime, String> {
     Ok(last)
 }
 
-fn make(root: &Path) -> Result<(), String> {
+fn make(folder: &Path) -> Result<(), String> {
     let run = Command::new("rt")
-        .args(["staticlib", "mellansko"])
-        .current_dir(root)
+        // For every processor of x86-64: the toolchain's default leaves out the oldest.
+        .args(["lib", "--cpu", "x86-64"])
+        .current_dir(folder)
         .output()
         .map_err(|error| {
             format!(
@@ -107,8 +121,8 @@ fn make(root: &Path) -> Result<(), String> {
     }
     let said = [run.stdout, run.stderr].concat();
     Err(format!(
-        "mellansko: `rt staticlib mellansko` failed in {}:\n{}",
-        root.display(),
+        "mellansko: `rt lib --cpu x86-64` failed in {}:\n{}",
+        folder.display(),
         String::from_utf8_lossy(&said)
     ))
 }

@@ -19,14 +19,16 @@ use std::time::Duration;
 fn program() -> &'static Path {
     static PROGRAM: OnceLock<PathBuf> = OnceLock::new();
     PROGRAM.get_or_init(|| {
-        let root = Path::new(env!("CARGO_MANIFEST_DIR")).join("../..");
+        let folder = Path::new(env!("CARGO_MANIFEST_DIR")).join("../../crates/run_feed");
         let mut rt = Command::new("rt");
-        let proved = rt.args(["check", "run_feed"]).current_dir(&root).output();
+        // It also runs the program: here over no bytes.
+        let proved = rt.arg("run").current_dir(&folder).stdin(Stdio::null());
+        let proved = proved.output();
         let proved = proved.expect("the Rattle toolchain's `rt`, which proves the program");
         let said = [proved.stdout, proved.stderr].concat();
         let said = String::from_utf8_lossy(&said);
-        assert!(proved.status.success(), "rt check run_feed: {said}");
-        root.join("target/bin/run_feed")
+        assert!(proved.status.success(), "rt run in run_feed: {said}");
+        folder.join("out/run_feed")
     })
 }
 

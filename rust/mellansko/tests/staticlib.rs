@@ -98,7 +98,7 @@ fn a_ready_archive_is_linked_as_it_is_and_rt_is_not_called() {
 
     // Without the variable the sources are wanted, and then rt.
     assert!(!build.run(None).status.success());
-    fs::create_dir(build.0.join("crates")).expect("a folder");
+    fs::create_dir_all(build.0.join("crates/mellansko")).expect("a folder");
     fs::write(build.0.join("crates.txt"), "").expect("a file");
     assert!(!build.run(None).status.success());
     assert!(build.rt_was_called());

@@ -8,6 +8,14 @@ use std::fs;
 use std::path::{Path, PathBuf};
 use std::process::{Command, Stdio};
 
+/// Sources of the archive.
+const FILES: [&str; 4] = [
+    "crates.txt",
+    "crates/log_look/src/lib.rt",
+    "crates/log_look/specs/Lib.antt",
+    "crates/log_look/proofs/look/Answers.antt",
+];
+
 /// The build script, made for a folder in which all sources are an hour old.
 struct Build {
     root: PathBuf,
@@ -18,17 +26,21 @@ impl Build {
     fn new(folder: &Folder) -> Option<Build> {
         let root = folder.join("place");
         let package = root.join("rust/mellansko");
-        let source = root.join("crates/log_look/src");
-        for folder in [
-            &package,
-            &source,
-            &root.join("out"),
-            &root.join("target/staticlib"),
-        ] {
+        let folders = [
+            "out",
+            "crates/mellansko/out",
+            "crates/log_look/src",
+            "crates/log_look/specs",
+            "crates/log_look/proofs/look",
+            "crates/log_look/out",
+        ];
+        for folder in folders.map(|folder| root.join(folder)) {
             fs::create_dir_all(folder).expect("a folder");
         }
-        fs::write(source.join("lib.rt"), "").expect("a source");
-        fs::write(root.join("crates.txt"), "").expect("a source");
+        fs::create_dir_all(&package).expect("a folder");
+        for source in FILES {
+            fs::write(root.join(source), "").expect("a source");
+        }
         set_ages(&root, 60);
         let script = Path::new(env!("CARGO_MANIFEST_DIR")).join("../mellansko/build.rs");
         let mut rustc = Command::new("rustc");
@@ -43,7 +55,7 @@ impl Build {
     }
 
     fn archive(&self) -> PathBuf {
-        self.root.join("target/staticlib/libmellansko.a")
+        self.root.join("crates/mellansko/out/libmellansko.a")
     }
 
     /// An archive that was written so many minutes ago.
@@ -80,14 +92,18 @@ impl Build {
         let ran = self.run();
         assert_eq!((ran.status, ran.err.as_str()), (Some(0), ""));
         let root = self.root.canonicalize().expect("the folder");
-        let call = format!("{}: staticlib mellansko\n", root.display());
+        let folder = root.join("crates/mellansko");
+        let call = format!("{}: lib --cpu x86-64\n", folder.display());
         assert_eq!(self.calls(), if called { call } else { String::new() });
         let copy = fs::read_to_string(self.root.join("out/libmellansko.a"));
         assert_eq!(copy.expect("a copy"), linked);
         assert!(ran
             .text()
             .contains("cargo:rustc-link-lib=static=mellansko\n"));
-        for source in ["crates", "crates.txt"] {
+        let parts = ["src", "specs", "proofs"].map(|part| format!("crates/log_look/{part}"));
+        let watched = ran.text().matches("cargo:rerun-if-changed").count();
+        assert_eq!(watched, 1 + parts.len(), "{}", ran.text());
+        for source in parts.iter().map(String::as_str).chain(["crates.txt"]) {
             let watched = format!("cargo:rerun-if-changed={}\n", root.join(source).display());
             assert!(ran.text().contains(&watched), "{}", ran.text());
         }
@@ -115,12 +131,10 @@ fn rt_is_called_if_the_archive_is_missing_or_older_than_a_source_and_only_then()
     build.add_archive(30);
     build.check(false, "ready");
 
-    for source in [
-        "crates.txt",
-        "crates/log_look/src/lib.rt",
-        "crates/log_look/src",
-        "crates",
-    ] {
+    for source in FILES
+        .into_iter()
+        .chain(["crates/log_look/src", "crates/log_look/proofs"])
+    {
         let source = build.root.join(source);
         build.add_archive(30);
         set_age(&source, 10);
@@ -128,6 +142,11 @@ fn rt_is_called_if_the_archive_is_missing_or_older_than_a_source_and_only_then()
         build.check(false, "made");
         set_age(&source, 60);
     }
+    // What rt writes beside the sources is none.
+    build.add_archive(30);
+    let kept = build.root.join("crates/log_look/out/kept");
+    fs::write(&kept, "").expect("a file");
+    build.check(false, "ready");
     // Of the same age, it may have been written before the source.
     let source = build.root.join("crates.txt");
     set_age(&source, 50);
@@ -144,7 +163,7 @@ fn rt_is_called_if_the_archive_is_missing_or_older_than_a_source_and_only_then()
 fn check_failures(build: &Build) {
     build.add_archive(90);
     build.add_rt("echo the proof; echo has a gap >&2; exit 1");
-    build.fails(&["`rt staticlib mellansko` failed", "the proof", "has a gap"]);
+    build.fails(&["`rt lib --cpu x86-64` failed", "the proof", "has a gap"]);
     // An rt that makes nothing is no success.
     fs::remove_file(build.archive()).expect("the archive");
     build.add_rt("exit 0");

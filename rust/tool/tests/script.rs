@@ -17,8 +17,10 @@ fn one_at_a_time() -> MutexGuard<'static, ()> {
     ONE.lock().unwrap_or_else(PoisonError::into_inner)
 }
 
-const SOURCES: [&str; 9] = [
+const SOURCES: [&str; 11] = [
     "crates/log_look/src/lib.rt",
+    "crates/log_look/specs/Lib.antt",
+    "crates/log_look/proofs/Lib.antt",
     "crates.txt",
     "rust/Cargo.toml",
     "rust/Cargo.lock",
@@ -167,6 +169,11 @@ fn it_builds_if_there_is_no_build_or_a_source_is_newer_and_only_then() {
         assert_eq!(runs(), [""; 0], "{source}");
         set_age(&place.root.join(source), 60);
     }
+    // What rt writes beside a crate's sources is none.
+    let out = place.root.join("crates/log_look/out");
+    fs::create_dir(&out).expect("a folder");
+    fs::write(out.join("kept"), "").expect("a file");
+    assert_eq!(runs(), [""; 0]);
     fs::rename(&tool, place.root.join("built")).expect("the tool");
     let (from, to) = (place.root.join("built"), tool.display());
     place.add_cargo(&format!("cp '{}' '{to}'", from.display()));
@@ -207,9 +214,10 @@ fn copy_all(from: &Path, to: &Path) {
     fs::create_dir_all(to).expect("a folder");
     for entry in fs::read_dir(from).expect("a folder") {
         let entry = entry.expect("an entry");
-        let to = to.join(entry.file_name());
+        let name = entry.file_name();
+        let to = to.join(&name);
         match entry.file_type().expect("its type").is_dir() {
-            true if entry.file_name() == "target" => {}
+            true if name == "out" || name == "target" => {}
             true => copy_all(&entry.path(), &to),
             false => drop(fs::copy(entry.path(), to).expect("a file")),
         }
@@ -255,7 +263,7 @@ fn without_rt_it_names_the_toolchain_and_with_it_the_tool_is_built() {
         assert!(ran.err.contains(said), "{said}: {}", ran.err);
     }
 
-    let made = place.root.join("target/staticlib");
+    let made = place.root.join("crates/mellansko/out");
     let (calls, archive) = (place.root.join("calls"), archive());
     let (calls, from, to) = (calls.display(), archive.display(), made.display());
     let make = format!("echo \"$*\" >>'{calls}'\nmkdir -p '{to}'\ncp '{from}' '{to}'");
@@ -266,5 +274,5 @@ fn without_rt_it_names_the_toolchain_and_with_it_the_tool_is_built() {
         assert_eq!(ran.text(), run!("--version").text());
         assert_eq!(ran.err.is_empty(), round > 0, "{}", ran.err);
     }
-    assert_eq!(place.calls(), ["staticlib mellansko"]);
+    assert_eq!(place.calls(), ["lib --cpu x86-64"]);
 }
