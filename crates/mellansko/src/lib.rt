@@ -28,7 +28,7 @@ pub extern "C" fn mellansko_mask(checksum: u32) -> u32
     Mask::of(checksum)
 }
 
-// The answer's ten numbers are appendedNumbers', and what is returned is the first of them.
+// The answer's ten numbers are appended_numbers', and what is returned is the first of them.
 #[unsafe(no_mangle)]
 pub extern "C" fn mellansko_append(
     log: &mut [u8],
@@ -45,7 +45,7 @@ pub extern "C" fn mellansko_append(
     appended[0]
 }
 
-// The answer's ten numbers are nextNumbers', and what is returned is the first of them.
+// The answer's ten numbers are next_numbers', and what is returned is the first of them.
 #[unsafe(no_mangle)]
 pub extern "C" fn mellansko_next(
     log: &[u8],

@@ -6,7 +6,7 @@ ghost use Rattle.log_format.specs.Format.Numbers.{kind_in};
 ghost use Rattle.mend_format.specs.Format.Mending.{mend_of};
 ghost use Rattle.mend_format.specs.Format.Numbers.{mended_numbers};
 
-// The answer's ten numbers are mendedNumbers', and what is returned is the first of them.
+// The answer's ten numbers are mended_numbers', and what is returned is the first of them.
 #[unsafe(no_mangle)]
 pub extern "C" fn mellansko_mend(
     bad: &[u8],
