@@ -3,6 +3,7 @@
 // serves run_feed as well.
 //
 // No contract can say what is written. rust/reference has the same steps, and what it writes is what the programs are held to.
+// What writes takes the runtime, and answers an error where a write fails.
 #![tactic(auto)]
 
 mod call;
