@@ -3,37 +3,58 @@ ghost use Rattle.std.specs.Prelude.{◌≤◌, length};
 
 use crate::line;
 use log_format::Next;
+use std::io;
 
-pub fn append(log: &mut [u8], n: usize, mark: usize, record: &[u8])
+pub fn append(
+    rt: &impl Print,
+    log: &mut [u8],
+    n: usize,
+    mark: usize,
+    record: &[u8],
+) -> io::Result<()>
     requires { n ≤ length log.old }
 {
     let answer = log_writer::append(&mut log[0..n], mark, record);
-    line::appended(record.len(), mark, answer);
+    line::appended(rt, record.len(), mark, answer)
 }
 
-pub fn next_within(log: &[u8], place: usize, limit: usize, buffer: &mut [u8], m: usize) -> Next
+pub fn next_within(
+    rt: &impl Print,
+    log: &[u8],
+    place: usize,
+    limit: usize,
+    buffer: &mut [u8],
+    m: usize,
+) -> io::Result<Next>
     requires { m ≤ length buffer.old }
 {
-    next(log, place, limit, &mut buffer[0..m])
+    next(rt, log, place, limit, &mut buffer[0..m])
 }
 
-fn next(log: &[u8], place: usize, limit: usize, buffer: &mut [u8]) -> Next {
+fn next(
+    rt: &impl Print,
+    log: &[u8],
+    place: usize,
+    limit: usize,
+    buffer: &mut [u8],
+) -> io::Result<Next> {
     let answer = log_reader::next(log, place, limit, buffer);
-    line::next(answer, log_reader::record_bytes(log, buffer, answer));
-    answer
+    line::next(rt, answer, log_reader::record_bytes(log, buffer, answer))?;
+    Ok(answer)
 }
 
-pub fn read(log: &[u8], limit: usize, buffer: &mut [u8]) {
+pub fn read(rt: &impl Print, log: &[u8], limit: usize, buffer: &mut [u8]) -> io::Result<()> {
     let mut place = 0;
     // The tests let through every place that an answer can name. They show that the reading ends: each turn comes closer to the
     // log's end.
     while place <= log.len() {
-        let after = after(next(log, place, limit, buffer));
+        let after = after(next(rt, log, place, limit, buffer)?);
         if after <= place {
-            return;
+            return Ok(());
         }
         place = after;
     }
+    Ok(())
 }
 
 // Where a reading goes on from, or 0 where it stops.
@@ -45,6 +66,6 @@ fn after(answer: Next) -> usize {
     }
 }
 
-pub fn bytes<'a>(log: &'a [u8], buffer: &'a [u8], answer: Next) {
-    line::asked(log_reader::record_bytes(log, buffer, answer));
+pub fn bytes<'a>(rt: &impl Print, log: &'a [u8], buffer: &'a [u8], answer: Next) -> io::Result<()> {
+    line::asked(rt, log_reader::record_bytes(log, buffer, answer))
 }

@@ -3,6 +3,7 @@
 // serves run_feed as well.
 //
 // No contract can say what is written. rust/reference has the same steps, and what it writes is what the programs are held to.
+// What writes takes the runtime, and answers an error where a write fails.
 #![tactic(auto)]
 
 mod call;
@@ -13,6 +14,7 @@ ghost use Rattle.std.specs.Prelude.{◌<◌, ◌≤◌};
 
 pub use line::{number, text, three};
 use log_format::Next;
+use std::io;
 
 // The arrays that a program has. Of the log and the buffer it lends a front part. They are on the stack, so they have what the runs
 // need and no more: a log that takes the longest record, and the record, are more than a stack of 8 MiB has.
@@ -47,10 +49,15 @@ impl Filler {
 }
 
 // Begins a scenario.
-pub fn scenario(title: &[u8], log: &mut LogArray, buffer: &mut BufferArray) {
+pub fn scenario(
+    rt: &impl Print,
+    title: &[u8],
+    log: &mut LogArray,
+    buffer: &mut BufferArray,
+) -> io::Result<()> {
     fill_log(log);
     fill::with(buffer, Filler::BUFFER);
-    line::title(title);
+    line::title(rt, title)
 }
 
 pub fn fill_log(log: &mut LogArray) {
@@ -58,90 +65,118 @@ pub fn fill_log(log: &mut LogArray) {
 }
 
 // Ends a scenario: the checksums of the log's first n bytes and of the whole buffer.
-pub fn sums(log: &LogArray, n: usize, buffer: &BufferArray)
-    requires* { do ⌜ n ≤ (← ⟦Length::LOG⟧) ⌝ }
+pub fn sums(rt: &impl Print, log: &LogArray, n: usize, buffer: &BufferArray) -> io::Result<()>
+    requires { n ≤ Length.LOG }
 {
     let whole = &log[..];
-    line::sum(b"log", &whole[0..n]);
-    line::sum(b"buffer", buffer);
+    line::sum(rt, b"log", &whole[0..n])?;
+    line::sum(rt, b"buffer", buffer)
 }
 
 // Puts a record's bytes into the array.
 pub fn make_record(record: &mut RecordArray, number: usize, bytes: usize)
-    requires* { do ⌜ bytes ≤ (← ⟦Length::RECORD⟧) ⌝ }
+    requires { bytes ≤ Length.RECORD }
 {
     fill::front(record, number, bytes);
 }
 
 // Changes a byte of the log by xor.
 pub fn change(log: &mut LogArray, place: usize, by: u8)
-    requires* { do ⌜ place < (← ⟦Length::LOG⟧) ⌝ }
+    requires { place < Length.LOG }
 {
     log[place] ^= by;
 }
 
 // Makes a record and appends it, with the log's first n bytes lent.
 pub fn append(
+    rt: &impl Print,
     log: &mut LogArray,
     n: usize,
     mark: usize,
     record: &mut RecordArray,
     number: usize,
     bytes: usize,
-)
-    requires* n_bound { do ⌜ n ≤ (← ⟦Length::LOG⟧) ⌝ }
-    requires* bytes_bound { do ⌜ bytes ≤ (← ⟦Length::RECORD⟧) ⌝ }
+) -> io::Result<()>
+    requires n_bound { n ≤ Length.LOG }
+    requires bytes_bound { bytes ≤ Length.RECORD }
 {
     make_record(record, number, bytes);
-    append_made(log, n, mark, record, bytes);
+    append_made(rt, log, n, mark, record, bytes)
 }
 
 // Appends a record that is not in the array.
-pub fn append_bytes(log: &mut LogArray, n: usize, mark: usize, record: &[u8])
-    requires* { do ⌜ n ≤ (← ⟦Length::LOG⟧) ⌝ }
+pub fn append_bytes(
+    rt: &impl Print,
+    log: &mut LogArray,
+    n: usize,
+    mark: usize,
+    record: &[u8],
+) -> io::Result<()>
+    requires { n ≤ Length.LOG }
 {
-    call::append(log, n, mark, record);
+    call::append(rt, log, n, mark, record)
 }
 
 // Appends the record that is there.
-pub fn append_made(log: &mut LogArray, n: usize, mark: usize, record: &RecordArray, bytes: usize)
-    requires* n_bound { do ⌜ n ≤ (← ⟦Length::LOG⟧) ⌝ }
-    requires* bytes_bound { do ⌜ bytes ≤ (← ⟦Length::RECORD⟧) ⌝ }
+pub fn append_made(
+    rt: &impl Print,
+    log: &mut LogArray,
+    n: usize,
+    mark: usize,
+    record: &RecordArray,
+    bytes: usize,
+) -> io::Result<()>
+    requires n_bound { n ≤ Length.LOG }
+    requires bytes_bound { bytes ≤ Length.RECORD }
 {
     let whole = &record[..];
-    append_bytes(log, n, mark, &whole[0..bytes]);
+    append_bytes(rt, log, n, mark, &whole[0..bytes])
 }
 
 // Reads the next thing, with the log's first n bytes and the buffer's first m lent.
 pub fn next(
+    rt: &impl Print,
     log: &LogArray,
     n: usize,
     place: usize,
     limit: usize,
     buffer: &mut BufferArray,
     m: usize,
-) -> Next
-    requires* n_bound { do ⌜ n ≤ (← ⟦Length::LOG⟧) ⌝ }
-    requires* m_bound { do ⌜ m ≤ (← ⟦Length::BUFFER⟧) ⌝ }
+) -> io::Result<Next>
+    requires n_bound { n ≤ Length.LOG }
+    requires m_bound { m ≤ Length.BUFFER }
 {
     let whole = &log[..];
-    call::next_within(&whole[0..n], place, limit, buffer, m)
+    call::next_within(rt, &whole[0..n], place, limit, buffer, m)
 }
 
 // Reads from place 0 to the end, with the log's first n bytes and the whole buffer lent.
-pub fn read(log: &LogArray, n: usize, limit: usize, buffer: &mut BufferArray)
-    requires* { do ⌜ n ≤ (← ⟦Length::LOG⟧) ⌝ }
+pub fn read(
+    rt: &impl Print,
+    log: &LogArray,
+    n: usize,
+    limit: usize,
+    buffer: &mut BufferArray,
+) -> io::Result<()>
+    requires { n ≤ Length.LOG }
 {
     let whole = &log[..];
-    call::read(&whole[0..n], limit, buffer);
+    call::read(rt, &whole[0..n], limit, buffer)
 }
 
 // Asks for an answer's bytes, in the log's first n bytes and the buffer's first m.
-pub fn bytes<'a>(log: &'a LogArray, n: usize, buffer: &'a BufferArray, m: usize, answer: Next)
-    requires* n_bound { do ⌜ n ≤ (← ⟦Length::LOG⟧) ⌝ }
-    requires* m_bound { do ⌜ m ≤ (← ⟦Length::BUFFER⟧) ⌝ }
+pub fn bytes<'a>(
+    rt: &impl Print,
+    log: &'a LogArray,
+    n: usize,
+    buffer: &'a BufferArray,
+    m: usize,
+    answer: Next,
+) -> io::Result<()>
+    requires n_bound { n ≤ Length.LOG }
+    requires m_bound { m ≤ Length.BUFFER }
 {
     let log = &log[..];
     let buffer = &buffer[..];
-    call::bytes(&log[0..n], &buffer[0..m], answer);
+    call::bytes(rt, &log[0..n], &buffer[0..m], answer)
 }

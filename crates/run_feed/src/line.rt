@@ -1,31 +1,32 @@
 // A line for each answer: what it is in a letter, and its numbers.
 use log_format::{Next, Refusal, Tail};
 use report::{number, text, three};
+use std::io;
 
-pub fn answer(answer: Next) {
+pub fn answer(rt: &impl Print, answer: Next) -> io::Result<()> {
     match answer {
         Next::Record(record) => {
-            three(b"R ", record.start, record.end, record.length);
-            text(b"\n");
+            three(rt, b"R ", record.start, record.end, record.length)?;
+            text(rt, b"\n")
         }
         Next::Skip(skip) => {
-            three(b"S ", skip.start, skip.end, skip.reason as usize);
-            text(b"\n");
+            three(rt, b"S ", skip.start, skip.end, skip.reason as usize)?;
+            text(rt, b"\n")
         }
-        Next::End(tail) => end(tail),
-        Next::Refused(refusal) => refused(refusal),
+        Next::End(tail) => end(rt, tail),
+        Next::Refused(refusal) => refused(rt, refusal),
     }
 }
 
-pub fn refused(refusal: Refusal) {
-    number(b"X ", refusal.number as usize);
-    text(b"\n");
+pub fn refused(rt: &impl Print, refusal: Refusal) -> io::Result<()> {
+    number(rt, b"X ", refusal.number as usize)?;
+    text(rt, b"\n")
 }
 
-fn end(tail: Tail) {
+fn end(rt: &impl Print, tail: Tail) -> io::Result<()> {
     match tail {
-        Tail::Clean => text(b"E clean"),
-        Tail::Torn(place) => number(b"E torn ", place),
+        Tail::Clean => text(rt, b"E clean")?,
+        Tail::Torn(place) => number(rt, b"E torn ", place)?,
     }
-    text(b"\n");
+    text(rt, b"\n")
 }

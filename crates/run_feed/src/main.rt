@@ -3,12 +3,15 @@
 // No contract can say what is read or written. rust/reference has the same program, and what it writes is what this one is held to.
 #![tactic(auto)]
 
+ghost use Rattle.std.specs.Prelude.{◌≤◌, length};
+
 mod line;
 
 use feed_format::{Began, Feed, Told, Took};
-use libc::STDIN_FILENO;
 use log_format::{Log, Next};
 use log_layout::Block;
+use std::io;
+use std::io::Read;
 
 // The limit on a record's length.
 const LIMIT: usize = 24_576;
@@ -23,47 +26,77 @@ enum Going {
     Stop,
 }
 
-fn main() {
+fn main(rt: HostRuntime) -> io::Result<()> {
     let mut block = [0u8; Block::SIZE];
     let mut buffer = [0u8; LIMIT];
     let began = feed_state::begin(LIMIT);
     match began {
-        Began::Feed(feed) => read(feed, &mut block, &mut buffer),
-        Began::Refused(refusal) => line::refused(refusal),
+        Began::Feed(feed) => read(&rt, feed, &mut block, &mut buffer),
+        Began::Refused(refusal) => line::refused(&rt, refusal),
     }
 }
 
-fn read(feed: Feed, block: &mut [u8; Block::SIZE], buffer: &mut [u8; LIMIT]) {
+fn read(
+    rt: &(impl Input + Print),
+    feed: Feed,
+    block: &mut [u8; Block::SIZE],
+    buffer: &mut [u8; LIMIT],
+) -> io::Result<()> {
     let mut now = feed;
     // The tests let through every state that a piece leads to, unless it has no bytes: then the input has ended. They show that the
     // reading ends: with each turn more has come.
     while now.came <= Log::LONGEST {
-        let going = read_piece(now, block, buffer);
+        let going = read_piece(rt, now, block, buffer)?;
         let Going::On(after) = going else {
-            return;
+            return Ok(());
         };
         if after.came <= now.came {
             break;
         }
         now = after;
     }
-    draw(feed_state::end(now), block, buffer);
+    draw(rt, feed_state::end(now), block, buffer)?;
+    Ok(())
 }
 
 // A short read is not the end of the input: what comes later belongs to the same piece.
-fn read_piece(feed: Feed, block: &mut [u8; Block::SIZE], buffer: &mut [u8; LIMIT]) -> Going {
+fn read_piece(
+    rt: &(impl Input + Print),
+    feed: Feed,
+    block: &mut [u8; Block::SIZE],
+    buffer: &mut [u8; LIMIT],
+) -> io::Result<Going> {
     let mut piece = [0u8; PIECE];
-    let n = io::read_full(STDIN_FILENO, &mut piece);
-    take(feed, block, &piece[..n], buffer)
+    let n = read_full(&mut rt.reader(), &mut piece);
+    take(rt, feed, block, &piece[..n], buffer)
+}
+
+// Reads until the piece is full, the input ends or a read fails, and answers how many bytes were put at its start.
+fn read_full(input: &mut impl Read, piece: &mut [u8]) -> usize
+    ensures { result ≤ length piece.new }
+{
+    let mut done = 0;
+    while done < piece.len() {
+        let n = match input.read(&mut piece[done..]) {
+            Ok(n) => n,
+            Err(_) => 0,
+        };
+        if n == 0 {
+            break;
+        }
+        done += n;
+    }
+    done
 }
 
 // Takes all of the piece, and draws what is certain after each part of it.
 fn take(
+    rt: &impl Print,
     feed: Feed,
     block: &mut [u8; Block::SIZE],
     piece: &[u8],
     buffer: &mut [u8; LIMIT],
-) -> Going {
+) -> io::Result<Going> {
     let mut now = feed;
     let mut from = 0;
     while from < piece.len() {
@@ -71,28 +104,33 @@ fn take(
         let took = taken.took;
         match took {
             Took::Bytes(n) => {
-                let going = draw(taken.feed, block, buffer);
+                let going = draw(rt, taken.feed, block, buffer)?;
                 let Going::On(after) = going else {
-                    return Going::Stop;
+                    return Ok(Going::Stop);
                 };
                 // §11.5: there is room once nothing more is certain. The test shows that this ends.
                 if n == 0 {
-                    return Going::Stop;
+                    return Ok(Going::Stop);
                 }
                 now = after;
                 from += n;
             }
             Took::Refused(refusal) => {
-                line::refused(refusal);
-                return Going::Stop;
+                line::refused(rt, refusal)?;
+                return Ok(Going::Stop);
             }
         }
     }
-    Going::On(now)
+    Ok(Going::On(now))
 }
 
 // Writes the lines of what is certain.
-fn draw(feed: Feed, block: &[u8; Block::SIZE], buffer: &mut [u8; LIMIT]) -> Going {
+fn draw(
+    rt: &impl Print,
+    feed: Feed,
+    block: &[u8; Block::SIZE],
+    buffer: &mut [u8; LIMIT],
+) -> io::Result<Going> {
     let mut now = feed;
     // A block has fewer answers than bytes: each takes those of a header at least, or interrupts a record that took them.
     for _ in 0..Block::SIZE {
@@ -101,15 +139,15 @@ fn draw(feed: Feed, block: &[u8; Block::SIZE], buffer: &mut [u8; LIMIT]) -> Goin
         now = drawn.feed;
         match told {
             Told::Answer(answer) => {
-                line::answer(answer);
+                line::answer(rt, answer)?;
                 if is_last(answer) {
-                    return Going::Stop;
+                    return Ok(Going::Stop);
                 }
             }
-            Told::Nothing => return Going::On(now),
+            Told::Nothing => return Ok(Going::On(now)),
         }
     }
-    Going::Stop
+    Ok(Going::Stop)
 }
 
 fn is_last(answer: Next) -> bool {
