@@ -18,7 +18,7 @@ use std::io;
 
 // The arrays that a program has. Of the log and the buffer it lends a front part. They are on the stack, so they have what the runs
 // need and no more: a log that takes the longest record, and the record, are more than a stack of 8 MiB has.
-#[derive(Drop)]
+#[derive(Clone, Copy)]
 pub struct Length;
 
 impl Length {
@@ -39,7 +39,7 @@ pub type RecordArray = [u8; Length::RECORD];
 pub type BufferArray = [u8; Length::BUFFER];
 
 // What log and buffer are filled with, so that bytes that a call left alone can be seen.
-#[derive(Drop)]
+#[derive(Clone, Copy)]
 struct Filler;
 
 impl Filler {

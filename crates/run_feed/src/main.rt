@@ -20,7 +20,7 @@ const LIMIT: usize = 24_576;
 const PIECE: usize = 32_768;
 
 // Whether there is more to do: not after a refusal, and not after the end.
-#[derive(Drop)]
+#[derive(Clone, Copy)]
 enum Going {
     On(Feed),
     Stop,
