@@ -57,9 +57,10 @@ fn up_to_date() -> Result<PathBuf, String> {
     for source in &sources {
         println!("cargo:rerun-if-changed={}", source.display());
     }
-    let folder = root.join("crates/mellansko");
+    let crates = root.join("crates");
+    let folder = crates.join("mellansko");
     let archive = folder.join("out/libmellansko.a");
-    if !is_newer(&archive, &sources)? {
+    if !is_newer(&archive, &crates, &sources)? {
         make(&folder)?;
     }
     Ok(archive)
@@ -77,11 +78,16 @@ fn sources(root: &Path) -> Result<Vec<PathBuf>, String> {
     Ok(sources)
 }
 
-/// Whether the archive is there and no source has changed since it was written.
-fn is_newer(archive: &Path, sources: &[PathBuf]) -> Result<bool, String> {
+/// Whether the archive is there, and since it was written no source has changed and no crate's
+/// folder has come or gone.
+fn is_newer(archive: &Path, crates: &Path, sources: &[PathBuf]) -> Result<bool, String> {
     let Ok(written) = fs::metadata(archive).and_then(|archive| archive.modified()) else {
         return Ok(false);
     };
+    let folders = fs::metadata(crates).and_then(|crates| crates.modified());
+    if found(folders, crates)? >= written {
+        return Ok(false);
+    }
     for source in sources {
         if last_change(source)? >= written {
             return Ok(false);

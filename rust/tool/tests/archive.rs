@@ -131,10 +131,8 @@ fn rt_is_called_if_the_archive_is_missing_or_older_than_a_source_and_only_then()
     build.add_archive(30);
     build.check(false, "ready");
 
-    for source in FILES
-        .into_iter()
-        .chain(["crates/log_look/src", "crates/log_look/proofs"])
-    {
+    let folders = ["crates/log_look/src", "crates/log_look/proofs", "crates"];
+    for source in FILES.into_iter().chain(folders) {
         let source = build.root.join(source);
         build.add_archive(30);
         set_age(&source, 10);
