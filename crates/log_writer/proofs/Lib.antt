@@ -1,4 +1,3 @@
 pub mod Sizes
-pub mod Zeros
 pub mod Rest
 pub mod Answers
