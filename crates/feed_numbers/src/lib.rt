@@ -4,7 +4,8 @@
 ghost use Rattle.std.specs.Prelude.{◌≡◌};
 ghost use Rattle.feed_format.specs.Format.Numbers as numbers;
 
-use feed_format::{Began, Feed, Told, Took};
+use feed_format::Feed;
+use log_format::{Next, Refusal};
 
 pub fn state_in(state: &[u64; 10]) -> Feed
     ensures { result ≡ numbers.feed_in state.now }
@@ -41,38 +42,38 @@ pub fn state_out(feed: Feed) -> [u64; 10]
 }
 
 // A refusal changes none.
-pub fn state_begun(began: Began, state: &mut [u64; 10])
+pub fn state_begun(began: Result<Feed, Refusal>, state: &mut [u64; 10])
     ensures { state.new ≡ numbers.state_begun state.old began }
 {
-    if let Began::Feed(feed) = began {
+    if let Ok(feed) = began {
         *state = state_out(feed);
     }
 }
 
-pub fn began(answer: Began) -> [u64; 10]
+pub fn began(answer: Result<Feed, Refusal>) -> [u64; 10]
     ensures { result ≡ numbers.began_numbers answer }
 {
     match answer {
-        Began::Feed(_) => [0, 0, 0, 0, 0, 0, 0, 0, 0, 0],
-        Began::Refused(refusal) => answer_numbers::refused(1, refusal),
+        Ok(_) => [0; 10],
+        Err(refusal) => answer_numbers::refused(1, refusal),
     }
 }
 
-pub fn took(answer: Took) -> [u64; 10]
+pub fn took(answer: Result<usize, Refusal>) -> [u64; 10]
     ensures { result ≡ numbers.took_numbers answer }
 {
     match answer {
-        Took::Bytes(taken) => [0, taken as u64, 0, 0, 0, 0, 0, 0, 0, 0],
-        Took::Refused(refusal) => answer_numbers::refused(1, refusal),
+        Ok(taken) => [0, taken as u64, 0, 0, 0, 0, 0, 0, 0, 0],
+        Err(refusal) => answer_numbers::refused(1, refusal),
     }
 }
 
 // came: how many bytes have come, which is where a clean end goes on from.
-pub fn told(came: usize, answer: Told) -> [u64; 10]
+pub fn told(came: usize, answer: Result<Option<Next>, Refusal>) -> [u64; 10]
     ensures { result ≡ numbers.told_numbers came answer }
 {
-    match answer {
-        Told::Answer(next) => answer_numbers::next(came, next),
-        Told::Nothing => [4, 0, 0, 0, 0, 0, 0, 0, 0, 0],
+    match answer.transpose() {
+        Some(next) => answer_numbers::next(came, next),
+        None => [4, 0, 0, 0, 0, 0, 0, 0, 0, 0],
     }
 }

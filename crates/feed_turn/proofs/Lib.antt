@@ -1,3 +1,2 @@
-pub mod Seeing
 pub mod Putting
 pub mod Turning
