@@ -4,24 +4,18 @@
 ghost use Rattle.std.specs.Prelude.{◌≡◌};
 ghost use Rattle.mend_format.specs.Format.Numbers.{mended_numbers};
 
-use mend_format::Mending;
+use log_format::Refusal;
+use mend_format::Mended;
 
-pub fn mended(answer: Mending) -> [u64; 10]
+pub fn mended(answer: Result<Mended, Refusal>) -> [u64; 10]
     ensures { result ≡ mended_numbers answer }
 {
     match answer {
-        Mending::Done(mended) => [
-            0,
-            mended.length as u64,
-            mended.skipped as u64,
-            0,
-            0,
-            0,
-            0,
-            0,
-            0,
-            0,
-        ],
-        Mending::Refused(refusal) => answer_numbers::refused(1, refusal),
+        Ok(mended) => {
+            let length = mended.length as u64;
+            let skipped = mended.skipped as u64;
+            [0, length, skipped, 0, 0, 0, 0, 0, 0, 0]
+        }
+        Err(refusal) => answer_numbers::refused(1, refusal),
     }
 }
