@@ -39,8 +39,7 @@ pub extern "C" fn mellansko_feed_take(
 {
     let taken = feed_take::take(state_in(state), block, piece);
     *state = state_out(taken.feed);
-    let took = taken.took;
-    let numbers = feed_numbers::took(took);
+    let numbers = feed_numbers::took(taken.took);
     *answer = numbers;
     numbers[0]
 }
@@ -67,8 +66,7 @@ pub extern "C" fn mellansko_feed_next(
     let feed = state_in(state);
     let drawn = feed_next::next(feed, block, buffer);
     *state = state_out(drawn.feed);
-    let told = drawn.told;
-    let numbers = feed_numbers::told(feed.came, told);
+    let numbers = feed_numbers::told(feed.came, drawn.told);
     *answer = numbers;
     numbers[0]
 }
