@@ -1,19 +1,17 @@
 // The steps that the programs run_edges, run_example, run_reasons and run_trailers are lists of: calls of the writer and the
-// reader, with the lines that tell what they answer, and changes of bytes, which write no line. What writes words and numbers
-// serves run_feed as well.
+// reader, with the lines that tell what they answer, and changes of bytes, which write no line.
 //
 // No contract can say what is written. rust/reference has the same steps, and what it writes is what the programs are held to.
-// What writes takes the runtime, and answers an error where a write fails.
+// What writes answers an error where a write fails.
 #![tactic(auto)]
 
-mod call;
-mod fill;
 mod line;
 
-ghost use Rattle.std.specs.Prelude.{◌<◌, ◌≤◌};
+ghost use Rattle.std.specs.Prelude.{◌≡◌, ◌<◌, ◌≤◌, set, slice_index, EachIndex, bit_xor};
 
-pub use line::{number, text, three};
-use log_format::Next;
+use line::Sum;
+use log_format::{Next, Refusal};
+use std::fmt::Display;
 use std::io;
 
 // The arrays that a program has. Of the log and the buffer it lends a front part. They are on the stack, so they have what the runs
@@ -32,12 +30,6 @@ impl Length {
     pub const BUFFER: usize = 262_144;
 }
 
-pub type LogArray = [u8; Length::LOG];
-
-pub type RecordArray = [u8; Length::RECORD];
-
-pub type BufferArray = [u8; Length::BUFFER];
-
 // What log and buffer are filled with, so that bytes that a call left alone can be seen.
 #[derive(Clone, Copy)]
 struct Filler;
@@ -48,135 +40,159 @@ impl Filler {
     const BUFFER: u8 = 0x5a;
 }
 
-// Begins a scenario.
-pub fn scenario(
-    rt: &impl Print,
-    title: &[u8],
-    log: &mut LogArray,
-    buffer: &mut BufferArray,
-) -> io::Result<()> {
-    fill_log(log);
-    fill::with(buffer, Filler::BUFFER);
-    line::title(rt, title)
+// What the steps are done on: the runtime, which takes the lines, and the arrays.
+#[derive(Drop)]
+pub struct Bench<'a, P: Print> {
+    rt: &'a P,
+    pub log: [u8; Length::LOG],
+    pub record: [u8; Length::RECORD],
+    buffer: [u8; Length::BUFFER],
 }
 
-pub fn fill_log(log: &mut LogArray) {
-    fill::with(log, Filler::LOG);
+impl<'a, P: Print> Bench<'a, P> {
+    pub fn new(rt: &'a P) -> Self {
+        Bench {
+            rt,
+            log: [0; Length::LOG],
+            record: [0; Length::RECORD],
+            buffer: [0; Length::BUFFER],
+        }
+    }
+
+    // Begins a scenario.
+    pub fn scenario(&mut self, title: impl Display + Drop) -> io::Result<()> {
+        self.fill_log();
+        self.buffer.fill(Filler::BUFFER);
+        println!(self.rt; "# {title}")
+    }
+
+    // Fills the log, so that bytes that a call left alone can be seen.
+    pub fn fill_log(&mut self)
+        ensures { EachIndex self.new.log (λ k. slice_index self.new.log k ≡ Filler.LOG) }
+    {
+        self.log.fill(Filler::LOG);
+    }
+
+    // Ends a scenario: the checksums of the log's first n bytes and of the whole buffer.
+    pub fn sums(&self, n: usize) -> io::Result<()>
+        requires { n ≤ Length.LOG }
+    {
+        println!(self.rt; "log {}", Sum(&self.log[..n]))?;
+        println!(self.rt; "buffer {}", Sum(&self.buffer))
+    }
+
+    // Puts the bytes of record number `number` at the record's front.
+    pub fn make_record(&mut self, number: usize, bytes: usize)
+        requires { bytes ≤ Length.RECORD }
+    {
+        for (i, byte) in self.record[..bytes].iter_mut().enumerate() {
+            *byte = record_byte(number, i);
+        }
+    }
+
+    // Changes a byte of the log by xor.
+    pub fn change(&mut self, place: usize, by: u8)
+        requires { place < Length.LOG }
+        ensures { self.new.log ≡ set self.old.log place (bit_xor (slice_index self.old.log place) by) }
+    {
+        self.log[place] ^= by;
+    }
+
+    // Makes a record and appends it, with the log's first n bytes lent.
+    pub fn append(&mut self, n: usize, mark: usize, number: usize, bytes: usize) -> io::Result<()>
+        requires n_bound { n ≤ Length.LOG }
+        requires bytes_bound { bytes ≤ Length.RECORD }
+    {
+        self.make_record(number, bytes);
+        self.append_made(n, mark, bytes)
+    }
+
+    // Appends the record that is there.
+    pub fn append_made(&mut self, n: usize, mark: usize, bytes: usize) -> io::Result<()>
+        requires n_bound { n ≤ Length.LOG }
+        requires bytes_bound { bytes ≤ Length.RECORD }
+    {
+        let record = &self.record[..bytes];
+        let log = &mut self.log[..];
+        append(self.rt, &mut log[..n], mark, record)
+    }
+
+    // Appends a record that is not in the array.
+    pub fn append_bytes(&mut self, n: usize, mark: usize, record: &[u8]) -> io::Result<()>
+        requires { n ≤ Length.LOG }
+    {
+        append(self.rt, &mut self.log[..n], mark, record)
+    }
+
+    // Reads the next thing, with the log's first n bytes and the buffer's first m lent.
+    pub fn next(&mut self, n: usize, place: usize, limit: usize, m: usize) -> io::Result<()>
+        requires n_bound { n ≤ Length.LOG }
+        requires m_bound { m ≤ Length.BUFFER }
+    {
+        let _ = self.answer(n, place, limit, m)?;
+        Ok(())
+    }
+
+    // The same, and gives the answer.
+    pub fn answer(
+        &mut self,
+        n: usize,
+        place: usize,
+        limit: usize,
+        m: usize,
+    ) -> io::Result<Result<Next, Refusal>>
+        requires n_bound { n ≤ Length.LOG }
+        requires m_bound { m ≤ Length.BUFFER }
+    {
+        let log = &self.log[..n];
+        let buffer = &mut self.buffer[..];
+        let answer = log_reader::next(log, place, limit, &mut buffer[..m]);
+        let bytes = log_reader::record_bytes(log, &buffer[..m], answer);
+        line::next(self.rt, answer, bytes)?;
+        Ok(answer)
+    }
+
+    // Reads from place 0 to the end, with the log's first n bytes and the whole buffer lent.
+    pub fn read(&mut self, n: usize, limit: usize) -> io::Result<()>
+        requires { n ≤ Length.LOG }
+    {
+        let mut place = 0;
+        // Each answer but the last takes a byte at least, so that there are no more than these.
+        for _ in 0..=n {
+            let answer = self.answer(n, place, limit, Length::BUFFER)?;
+            let Some(end) = end(answer) else {
+                break;
+            };
+            place = end;
+        }
+        Ok(())
+    }
+
+    // Asks for an answer's bytes, in the log's first n bytes and the buffer's first m.
+    pub fn bytes(&self, n: usize, m: usize, answer: Result<Next, Refusal>) -> io::Result<()>
+        requires n_bound { n ≤ Length.LOG }
+        requires m_bound { m ≤ Length.BUFFER }
+    {
+        let bytes = log_reader::record_bytes(&self.log[..n], &self.buffer[..m], answer);
+        println!(self.rt; "bytes {} {}", bytes.len(), Sum(bytes))
+    }
 }
 
-// Ends a scenario: the checksums of the log's first n bytes and of the whole buffer.
-pub fn sums(rt: &impl Print, log: &LogArray, n: usize, buffer: &BufferArray) -> io::Result<()>
-    requires { n ≤ Length.LOG }
-{
-    let whole = &log[..];
-    line::sum(rt, b"log", &whole[0..n])?;
-    line::sum(rt, b"buffer", buffer)
+fn append(rt: &impl Print, log: &mut [u8], mark: usize, record: &[u8]) -> io::Result<()> {
+    let answer = log_writer::append(log, mark, record);
+    line::appended(rt, record.len(), mark, answer)
 }
 
-// Puts a record's bytes into the array.
-pub fn make_record(record: &mut RecordArray, number: usize, bytes: usize)
-    requires { bytes ≤ Length.RECORD }
-{
-    fill::front(record, number, bytes);
+// i * 31 + i / 256 + number * 17, its lowest byte. Reduced before it is multiplied, so that no product wraps.
+fn record_byte(number: usize, i: usize) -> u8 {
+    ((i % 256 * 31 + i / 256 + number % 256 * 17) % 256) as u8
 }
 
-// Changes a byte of the log by xor.
-pub fn change(log: &mut LogArray, place: usize, by: u8)
-    requires { place < Length.LOG }
-{
-    log[place] ^= by;
-}
-
-// Makes a record and appends it, with the log's first n bytes lent.
-pub fn append(
-    rt: &impl Print,
-    log: &mut LogArray,
-    n: usize,
-    mark: usize,
-    record: &mut RecordArray,
-    number: usize,
-    bytes: usize,
-) -> io::Result<()>
-    requires n_bound { n ≤ Length.LOG }
-    requires bytes_bound { bytes ≤ Length.RECORD }
-{
-    make_record(record, number, bytes);
-    append_made(rt, log, n, mark, record, bytes)
-}
-
-// Appends a record that is not in the array.
-pub fn append_bytes(
-    rt: &impl Print,
-    log: &mut LogArray,
-    n: usize,
-    mark: usize,
-    record: &[u8],
-) -> io::Result<()>
-    requires { n ≤ Length.LOG }
-{
-    call::append(rt, log, n, mark, record)
-}
-
-// Appends the record that is there.
-pub fn append_made(
-    rt: &impl Print,
-    log: &mut LogArray,
-    n: usize,
-    mark: usize,
-    record: &RecordArray,
-    bytes: usize,
-) -> io::Result<()>
-    requires n_bound { n ≤ Length.LOG }
-    requires bytes_bound { bytes ≤ Length.RECORD }
-{
-    let whole = &record[..];
-    append_bytes(rt, log, n, mark, &whole[0..bytes])
-}
-
-// Reads the next thing, with the log's first n bytes and the buffer's first m lent.
-pub fn next(
-    rt: &impl Print,
-    log: &LogArray,
-    n: usize,
-    place: usize,
-    limit: usize,
-    buffer: &mut BufferArray,
-    m: usize,
-) -> io::Result<Next>
-    requires n_bound { n ≤ Length.LOG }
-    requires m_bound { m ≤ Length.BUFFER }
-{
-    let whole = &log[..];
-    call::next_within(rt, &whole[0..n], place, limit, buffer, m)
-}
-
-// Reads from place 0 to the end, with the log's first n bytes and the whole buffer lent.
-pub fn read(
-    rt: &impl Print,
-    log: &LogArray,
-    n: usize,
-    limit: usize,
-    buffer: &mut BufferArray,
-) -> io::Result<()>
-    requires { n ≤ Length.LOG }
-{
-    let whole = &log[..];
-    call::read(rt, &whole[0..n], limit, buffer)
-}
-
-// Asks for an answer's bytes, in the log's first n bytes and the buffer's first m.
-pub fn bytes<'a>(
-    rt: &impl Print,
-    log: &'a LogArray,
-    n: usize,
-    buffer: &'a BufferArray,
-    m: usize,
-    answer: Next,
-) -> io::Result<()>
-    requires n_bound { n ≤ Length.LOG }
-    requires m_bound { m ≤ Length.BUFFER }
-{
-    let log = &log[..];
-    let buffer = &buffer[..];
-    call::bytes(rt, &log[0..n], &buffer[0..m], answer)
+// Where a reading goes on from, unless it stops.
+fn end(answer: Result<Next, Refusal>) -> Option<usize> {
+    match answer {
+        Ok(Next::Record(record)) => Some(record.end),
+        Ok(Next::Skip(skip)) => Some(skip.end),
+        Ok(Next::End(_)) | Err(_) => None,
+    }
 }

@@ -1,92 +1,66 @@
 // The lines of a program's output.
 use crc32c::Crc32c;
-use log_format::{Appended, Next, Record, Refusal, Skip, Stored, Tail};
-use std::io;
+use log_format::{Next, Record, Refusal, Stored, Tail};
+use std::{fmt, io};
 
-pub fn title(rt: &impl Print, words: &[u8]) -> io::Result<()> {
-    text(rt, b"# ")?;
-    text(rt, words)?;
-    text(rt, b"\n")
-}
-
-pub fn appended(rt: &impl Print, length: usize, mark: usize, answer: Appended) -> io::Result<()> {
-    number(rt, b"append ", length)?;
-    number(rt, b" bytes at ", mark)?;
+pub fn appended(
+    rt: &impl Print,
+    length: usize,
+    mark: usize,
+    answer: Result<usize, Refusal>,
+) -> io::Result<()> {
+    print!(rt; "append {length} bytes at {mark}: ")?;
     match answer {
-        Appended::Mark(end) => number(rt, b": mark ", end)?,
-        Appended::Refused(refusal) => refused(rt, b": refused ", refusal)?,
+        Ok(end) => println!(rt; "mark {end}"),
+        Err(refusal) => println!(rt; "{}", Refused(refusal)),
     }
-    text(rt, b"\n")
 }
 
 // bytes: those that were asked for with the answer.
-pub fn next(rt: &impl Print, answer: Next, bytes: &[u8]) -> io::Result<()> {
+pub fn next(rt: &impl Print, answer: Result<Next, Refusal>, bytes: &[u8]) -> io::Result<()> {
     match answer {
-        Next::Record(record) => handed(rt, record, bytes),
-        Next::Skip(skip) => skipped(rt, skip),
-        Next::End(tail) => end(rt, tail),
-        Next::Refused(refusal) => {
-            refused(rt, b"refused ", refusal)?;
-            text(rt, b"\n")
-        }
+        Ok(Next::Record(record)) => handed(rt, record, bytes),
+        Ok(Next::Skip(skip)) => println!(rt; "skip {} {} {}", skip.start, skip.end, skip.reason),
+        Ok(Next::End(Tail::Clean)) => println!(rt; "end clean"),
+        Ok(Next::End(Tail::Torn(place))) => println!(rt; "end torn {place}"),
+        Err(refusal) => println!(rt; "{}", Refused(refusal)),
     }
-}
-
-pub fn asked(rt: &impl Print, bytes: &[u8]) -> io::Result<()> {
-    number(rt, b"bytes ", bytes.len())?;
-    sum(rt, b"", bytes)
-}
-
-// The checksum of bytes, after what they are.
-pub fn sum(rt: &impl Print, name: &[u8], bytes: &[u8]) -> io::Result<()> {
-    text(rt, name)?;
-    text(rt, b" crc32c ")?;
-    let checksum = Crc32c::extend(0, bytes);
-    print!(rt; "{checksum:08x}")?;
-    text(rt, b"\n")
 }
 
 fn handed(rt: &impl Print, record: Record, bytes: &[u8]) -> io::Result<()> {
-    three(rt, b"record ", record.start, record.end, record.length)?;
-    let stored = record.stored;
+    let Record {
+        start,
+        end,
+        length,
+        stored,
+        fragments,
+        last,
+    } = record;
+    print!(rt; "record {start} {end} {length} ")?;
     match stored {
-        Stored::Whole(place) => number(rt, b" whole ", place)?,
-        Stored::Gathered => text(rt, b" gathered")?,
+        Stored::Whole(place) => print!(rt; "whole {place}")?,
+        Stored::Gathered => print!(rt; "gathered")?,
     }
-    number(rt, b" fragments ", record.fragments)?;
-    number(rt, b" last ", record.last)?;
-    sum(rt, b"", bytes)
+    println!(rt; " fragments {fragments} last {last} {}", Sum(bytes))
 }
 
-fn skipped(rt: &impl Print, skip: Skip) -> io::Result<()> {
-    three(rt, b"skip ", skip.start, skip.end, skip.reason as usize)?;
-    text(rt, b"\n")
-}
+// The checksum of bytes.
+#[derive(Clone, Copy)]
+pub struct Sum<'a>(pub &'a [u8]);
 
-fn end(rt: &impl Print, tail: Tail) -> io::Result<()> {
-    match tail {
-        Tail::Clean => text(rt, b"end clean")?,
-        Tail::Torn(place) => number(rt, b"end torn ", place)?,
+impl fmt::Display for Sum<'_> {
+    fn fmt<W: fmt::Write>(&self, f: &mut fmt::Formatter<W>) -> fmt::Result {
+        write!(f, "crc32c {:08x}", Crc32c::extend(0, self.0))
     }
-    text(rt, b"\n")
 }
 
-fn refused(rt: &impl Print, words: &[u8], refusal: Refusal) -> io::Result<()> {
-    number(rt, words, refusal.number as usize)?;
-    number(rt, b" ", refusal.given)
-}
+// Why a call did nothing.
+#[derive(Clone, Copy)]
+struct Refused(Refusal);
 
-pub fn three(rt: &impl Print, words: &[u8], a: usize, b: usize, c: usize) -> io::Result<()> {
-    number(rt, words, a)?;
-    number(rt, b" ", b)?;
-    number(rt, b" ", c)
-}
-
-pub fn number(rt: &impl Print, words: &[u8], n: usize) -> io::Result<()> {
-    text(rt, words)?;
-    rt.print(n)
-}
-
-pub fn text(rt: &impl Print, words: &[u8]) -> io::Result<()> {
-    rt.write_all(words)
+impl fmt::Display for Refused {
+    fn fmt<W: fmt::Write>(&self, f: &mut fmt::Formatter<W>) -> fmt::Result {
+        let Refused(refusal) = self;
+        write!(f, "refused {} {}", refusal.number, refusal.given)
+    }
 }

@@ -1,32 +1,22 @@
-// A line for each answer: what it is in a letter, and its numbers.
+// The line of an answer: what it is in a letter, and its numbers.
 use log_format::{Next, Refusal, Tail};
-use report::{number, text, three};
-use std::io;
+use std::fmt;
 
-pub fn answer(rt: &impl Print, answer: Next) -> io::Result<()> {
-    match answer {
-        Next::Record(record) => {
-            three(rt, b"R ", record.start, record.end, record.length)?;
-            text(rt, b"\n")
+#[derive(Clone, Copy)]
+pub struct Line(pub Result<Next, Refusal>);
+
+impl fmt::Display for Line {
+    fn fmt<W: fmt::Write>(&self, f: &mut fmt::Formatter<W>) -> fmt::Result {
+        match self.0 {
+            Ok(Next::Record(record)) => write!(
+                f,
+                "R {} {} {}",
+                record.start, record.end, record.length
+            ),
+            Ok(Next::Skip(skip)) => write!(f, "S {} {} {}", skip.start, skip.end, skip.reason),
+            Ok(Next::End(Tail::Clean)) => write!(f, "E clean"),
+            Ok(Next::End(Tail::Torn(place))) => write!(f, "E torn {place}"),
+            Err(refusal) => write!(f, "X {}", refusal.number),
         }
-        Next::Skip(skip) => {
-            three(rt, b"S ", skip.start, skip.end, skip.reason as usize)?;
-            text(rt, b"\n")
-        }
-        Next::End(tail) => end(rt, tail),
-        Next::Refused(refusal) => refused(rt, refusal),
     }
-}
-
-pub fn refused(rt: &impl Print, refusal: Refusal) -> io::Result<()> {
-    number(rt, b"X ", refusal.number as usize)?;
-    text(rt, b"\n")
-}
-
-fn end(rt: &impl Print, tail: Tail) -> io::Result<()> {
-    match tail {
-        Tail::Clean => text(rt, b"E clean")?,
-        Tail::Torn(place) => number(rt, b"E torn ", place)?,
-    }
-    text(rt, b"\n")
 }

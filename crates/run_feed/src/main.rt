@@ -7,8 +7,9 @@ ghost use Rattle.std.specs.Prelude.{◌≤◌, length};
 
 mod line;
 
-use feed_format::{Began, Feed, Told, Took};
-use log_format::{Log, Next};
+use feed_format::Feed;
+use line::Line;
+use log_format::{Log, Next, Refusal};
 use log_layout::Block;
 use std::io;
 use std::io::Read;
@@ -19,68 +20,99 @@ const LIMIT: usize = 24_576;
 // The bytes of a piece. The last may have fewer.
 const PIECE: usize = 32_768;
 
-// Whether there is more to do: not after a refusal, and not after the end.
-#[derive(Clone, Copy)]
-enum Going {
-    On(Feed),
-    Stop,
-}
-
 fn main(rt: HostRuntime) -> io::Result<()> {
-    let mut block = [0u8; Block::SIZE];
-    let mut buffer = [0u8; LIMIT];
-    let began = feed_state::begin(LIMIT);
-    match began {
-        Began::Feed(feed) => read(&rt, feed, &mut block, &mut buffer),
-        Began::Refused(refusal) => line::refused(&rt, refusal),
+    let mut reader = Reader {
+        rt: &rt,
+        block: [0; Block::SIZE],
+        buffer: [0; LIMIT],
+    };
+    match feed_state::begin(LIMIT) {
+        Ok(feed) => reader.read(feed),
+        Err(refusal) => println!(rt; "{}", Line(Err(refusal))),
     }
 }
 
-fn read(
-    rt: &(impl Input + Print),
-    feed: Feed,
-    block: &mut [u8; Block::SIZE],
-    buffer: &mut [u8; LIMIT],
-) -> io::Result<()> {
-    let mut now = feed;
-    // The tests let through every state that a piece leads to, unless it has no bytes: then the input has ended. They show that the
-    // reading ends: with each turn more has come.
-    while now.came <= Log::LONGEST {
-        let going = read_piece(rt, now, block, buffer)?;
-        let Going::On(after) = going else {
-            return Ok(());
-        };
-        if after.came <= now.came {
-            break;
+// What the reading is done with: the runtime, which gives the bytes and takes the lines, and what the calls are lent.
+#[derive(Drop)]
+struct Reader<'a, R: Input + Print> {
+    rt: &'a R,
+    block: [u8; Block::SIZE],
+    buffer: [u8; LIMIT],
+}
+
+// A step answers the state after it, or None where there is no more to do: after a refusal, and after the end.
+impl<R: Input + Print> Reader<'_, R> {
+    fn read(&mut self, feed: Feed) -> io::Result<()> {
+        let mut now = feed;
+        // Each piece but the last has a byte at least, so that there are no more than these.
+        for _ in 0..=Log::LONGEST {
+            let mut piece = [0u8; PIECE];
+            let n = read_full(&mut self.rt.reader(), &mut piece);
+            if n == 0 {
+                break;
+            }
+            let Some(after) = self.take(now, &piece[..n])? else {
+                return Ok(());
+            };
+            now = after;
         }
-        now = after;
+        self.draw(feed_state::end(now))?;
+        Ok(())
     }
-    draw(rt, feed_state::end(now), block, buffer)?;
-    Ok(())
+
+    // Takes all of the piece, and draws what is certain after each part of it.
+    fn take(&mut self, feed: Feed, piece: &[u8]) -> io::Result<Option<Feed>> {
+        let mut now = feed;
+        let mut rest = piece;
+        while !rest.is_empty() {
+            let taken = feed_take::take(now, &mut self.block, rest);
+            let n = match taken.took {
+                Ok(n) => n,
+                Err(refusal) => {
+                    println!(self.rt; "{}", Line(Err(refusal)))?;
+                    return Ok(None);
+                }
+            };
+            let Some(after) = self.draw(taken.feed)? else {
+                return Ok(None);
+            };
+            // §11.5: there is room once nothing more is certain. The test shows that this ends.
+            if n == 0 {
+                return Ok(None);
+            }
+            now = after;
+            rest = &rest[n..];
+        }
+        Ok(Some(now))
+    }
+
+    // Writes the lines of what is certain.
+    fn draw(&mut self, feed: Feed) -> io::Result<Option<Feed>> {
+        let mut now = feed;
+        // A block has fewer answers than bytes: each takes those of a header at least, or interrupts a record that took them.
+        for _ in 0..Block::SIZE {
+            let drawn = feed_next::next(now, &self.block, &mut self.buffer);
+            now = drawn.feed;
+            let Some(answer) = drawn.told.transpose() else {
+                return Ok(Some(now));
+            };
+            println!(self.rt; "{}", Line(answer))?;
+            if is_last(answer) {
+                break;
+            }
+        }
+        Ok(None)
+    }
 }
 
-// A short read is not the end of the input: what comes later belongs to the same piece.
-fn read_piece(
-    rt: &(impl Input + Print),
-    feed: Feed,
-    block: &mut [u8; Block::SIZE],
-    buffer: &mut [u8; LIMIT],
-) -> io::Result<Going> {
-    let mut piece = [0u8; PIECE];
-    let n = read_full(&mut rt.reader(), &mut piece);
-    take(rt, feed, block, &piece[..n], buffer)
-}
-
-// Reads until the piece is full, the input ends or a read fails, and answers how many bytes were put at its start.
+// Reads until the piece is full, the input ends or a read fails, and answers how many bytes were put at its start. A short read is not
+// the end of the input: what comes later belongs to the same piece.
 fn read_full(input: &mut impl Read, piece: &mut [u8]) -> usize
     ensures { result ≤ length piece.new }
 {
     let mut done = 0;
     while done < piece.len() {
-        let n = match input.read(&mut piece[done..]) {
-            Ok(n) => n,
-            Err(_) => 0,
-        };
+        let n = input.read(&mut piece[done..]).unwrap_or(0);
         if n == 0 {
             break;
         }
@@ -89,70 +121,6 @@ fn read_full(input: &mut impl Read, piece: &mut [u8]) -> usize
     done
 }
 
-// Takes all of the piece, and draws what is certain after each part of it.
-fn take(
-    rt: &impl Print,
-    feed: Feed,
-    block: &mut [u8; Block::SIZE],
-    piece: &[u8],
-    buffer: &mut [u8; LIMIT],
-) -> io::Result<Going> {
-    let mut now = feed;
-    let mut from = 0;
-    while from < piece.len() {
-        let taken = feed_take::take(now, block, &piece[from..]);
-        let took = taken.took;
-        match took {
-            Took::Bytes(n) => {
-                let going = draw(rt, taken.feed, block, buffer)?;
-                let Going::On(after) = going else {
-                    return Ok(Going::Stop);
-                };
-                // §11.5: there is room once nothing more is certain. The test shows that this ends.
-                if n == 0 {
-                    return Ok(Going::Stop);
-                }
-                now = after;
-                from += n;
-            }
-            Took::Refused(refusal) => {
-                line::refused(rt, refusal)?;
-                return Ok(Going::Stop);
-            }
-        }
-    }
-    Ok(Going::On(now))
-}
-
-// Writes the lines of what is certain.
-fn draw(
-    rt: &impl Print,
-    feed: Feed,
-    block: &[u8; Block::SIZE],
-    buffer: &mut [u8; LIMIT],
-) -> io::Result<Going> {
-    let mut now = feed;
-    // A block has fewer answers than bytes: each takes those of a header at least, or interrupts a record that took them.
-    for _ in 0..Block::SIZE {
-        let drawn = feed_next::next(now, block, buffer);
-        let told = drawn.told;
-        now = drawn.feed;
-        match told {
-            Told::Answer(answer) => {
-                line::answer(rt, answer)?;
-                if is_last(answer) {
-                    return Ok(Going::Stop);
-                }
-            }
-            Told::Nothing => return Ok(Going::On(now)),
-        }
-    }
-    Ok(Going::Stop)
-}
-
-fn is_last(answer: Next) -> bool {
-    match answer {
-        Next::Record(_) | Next::Skip(_) => false,
-        Next::End(_) | Next::Refused(_) => true,
-    }
+fn is_last(answer: Result<Next, Refusal>) -> bool {
+    matches!(answer, Ok(Next::End(_)) | Err(_))
 }

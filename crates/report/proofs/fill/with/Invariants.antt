@@ -1,9 +1,0 @@
--- The measure is what is left of the slice.
-use Rattle.std.proofs.Common.{length, ◌-◌, ◌≡◌}
-use Rattle.report.proofs.fill.with.Given as goal
-
-abbrev pub invariant-loop-i : goal.invariant-loop-i
-invariant-loop-i l = length l.bytes ≡ length l.initial.bytes
-
-abbrev pub decreases-loop-i : goal.decreases-loop-i
-decreases-loop-i l = length l.initial.bytes - l.i
