@@ -7,7 +7,7 @@
 
 mod line;
 
-ghost use Rattle.std.specs.Prelude.{◌≡◌, ◌<◌, ◌≤◌, set, slice_index, EachIndex, bit_xor};
+ghost use Rattle.std.specs.Prelude.{◌≡◌, ◌<◌, ◌≤◌, replicate, set, slice_index, EachIndex, bit_xor};
 
 use line::Sum;
 use log_format::{Next, Refusal};
@@ -40,7 +40,8 @@ impl Filler {
     const BUFFER: u8 = 0x5a;
 }
 
-// What the steps are done on: the runtime, which takes the lines, and the arrays.
+// What the steps are done on: the runtime, which takes the lines, and the arrays. Each step asks that its n, m and bytes lie in
+// them: a type that says so would have to be made at each step, and a slice can't go beside `&mut self`.
 #[derive(Drop)]
 pub struct Bench<'a, P: Print> {
     rt: &'a P,
@@ -50,7 +51,9 @@ pub struct Bench<'a, P: Print> {
 }
 
 impl<'a, P: Print> Bench<'a, P> {
-    pub fn new(rt: &'a P) -> Self {
+    pub fn new(rt: &'a P) -> Self
+        ensures { (result.log ≡ replicate Length.LOG 0) × (result.record ≡ replicate Length.RECORD 0) × (result.buffer ≡ replicate Length.BUFFER 0) }
+    {
         Bench {
             rt,
             log: [0; Length::LOG],
@@ -160,10 +163,10 @@ impl<'a, P: Print> Bench<'a, P> {
         // Each answer but the last takes a byte at least, so that there are no more than these.
         for _ in 0..=n {
             let answer = self.answer(n, place, limit, Length::BUFFER)?;
-            let Some(end) = end(answer) else {
+            let Some(after) = goes_on(answer) else {
                 break;
             };
-            place = end;
+            place = after;
         }
         Ok(())
     }
@@ -189,7 +192,7 @@ fn record_byte(number: usize, i: usize) -> u8 {
 }
 
 // Where a reading goes on from, unless it stops.
-fn end(answer: Result<Next, Refusal>) -> Option<usize> {
+fn goes_on(answer: Result<Next, Refusal>) -> Option<usize> {
     match answer {
         Ok(Next::Record(record)) => Some(record.end),
         Ok(Next::Skip(skip)) => Some(skip.end),

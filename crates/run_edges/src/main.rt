@@ -76,7 +76,7 @@ fn block_ends(bench: &mut Bench<'_, impl Print>) -> io::Result<()> {
     bench.sums(262_144)
 }
 
-// An append at a mark near its block's end, and the reading of what it added.
+// Appends a record of so many bytes at a mark near its block's end, and reads what that added.
 fn append_and_read(
     bench: &mut Bench<'_, impl Print>,
     mark: usize,

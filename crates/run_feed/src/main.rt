@@ -106,7 +106,8 @@ impl<R: Input + Print> Reader<'_, R> {
 }
 
 // Reads until the piece is full, the input ends or a read fails, and answers how many bytes were put at its start. A short read is not
-// the end of the input: what comes later belongs to the same piece.
+// the end of the input: what comes later belongs to the same piece. No method of Read: read_exact loses how many bytes came, and
+// read_to_end takes the heap.
 fn read_full(input: &mut impl Read, piece: &mut [u8]) -> usize
     ensures { result ≤ length piece.new }
 {

@@ -18,7 +18,7 @@ fn main(rt: HostRuntime) -> io::Result<()> {
     Ok(())
 }
 
-// The end of a block that has no room for a header.
+// The end of a block that has no room for a header: how many bytes it has, and no slice of them.
 #[derive(Clone, Copy)]
 struct Trailer {
     bytes: usize,
