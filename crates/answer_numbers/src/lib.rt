@@ -1,4 +1,5 @@
-// docs/FORMAT.md, §10.1: answers as ten numbers. log_format's specs/Format/Numbers.antt says which.
+// docs/FORMAT.md, §10.1: answers as ten numbers. log_format's specs/Format/Numbers.antt says which. Places are cast, since there is no
+// From between usize and u64.
 #![tactic(auto)]
 
 ghost use Rattle.std.specs.Prelude.{◌≡◌, Ok};

@@ -7,6 +7,7 @@ ghost use Rattle.feed_format.specs.Format.Numbers as numbers;
 use feed_format::Feed;
 use log_format::{Next, Refusal};
 
+// No From: the two impls would have to stand in feed_format, beside Feed, and `Feed::from(*state)` reads no better.
 pub fn state_in(state: &[u64; 10]) -> Feed
     ensures { result ≡ numbers.feed_in state.now }
 {
@@ -59,13 +60,11 @@ pub fn began(answer: Result<Feed, Refusal>) -> [u64; 10]
     }
 }
 
+// A count of bytes is told as a mark is.
 pub fn took(answer: Result<usize, Refusal>) -> [u64; 10]
     ensures { result ≡ numbers.took_numbers answer }
 {
-    match answer {
-        Ok(taken) => [0, taken as u64, 0, 0, 0, 0, 0, 0, 0, 0],
-        Err(refusal) => answer_numbers::refused(1, refusal),
-    }
+    answer_numbers::appended(answer)
 }
 
 // came: how many bytes have come, which is where a clean end goes on from.
