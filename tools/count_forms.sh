@@ -42,7 +42,7 @@ count 3b '^\s*[a-z]+ \+= 1;'
 # 4: structs copied field by field; printing word by word; conversions; casts.
 count 4a '(limit: feed\.limit|start: record\.start),'
 count 4b '\b(text|number|three)\(rt'
-count 4c ' as (u8|u32|u64|usize)\b'
+count 4c ' as (u8|u16|u32|u64|usize)\b'
 count 4d 'return (true|false);'
 # 5: facts in several contracts, and arrays that travel together.
 count 5a 'requires.*\bReady\b'
@@ -53,6 +53,6 @@ count 5e 'requires.*\bLent\b'
 count 5f 'log: &(mut )?LogArray'
 count 5g 'requires.*\b(Length|Header)\.'
 # 6: a length beside its array.
-count 6a '^    (n|m|bytes): usize,'
+count 6a '\b(n|m|bytes): usize\b'
 # 7: which step to run, by a flag.
 count 7a '\bcut: bool'
