@@ -1,5 +1,6 @@
 // docs/FORMAT.md, §10.1: answers as ten numbers. log_format's specs/Format/Numbers.antt says which. Places are cast, since there is no
-// From between usize and u64.
+// From between usize and u64; and the kinds are numbers, as C has them. No From makes the ten of an answer: neither std's Result nor an
+// array is ours.
 #![tactic(auto)]
 
 ghost use Rattle.std.specs.Prelude.{◌≡◌, Ok};

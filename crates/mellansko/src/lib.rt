@@ -1,5 +1,5 @@
 // The calls for C and Rust. Each only hands on to the call of the crate that does the work, and says its answer in
-// numbers: docs/FORMAT.md, §10.1.
+// numbers: docs/FORMAT.md, §10.1. That the first of them is returned too is two lines in each, and no helper with a contract of its own.
 #![tactic(auto)]
 
 mod feed;

@@ -191,7 +191,8 @@ fn record_byte(number: usize, i: usize) -> u8 {
     ((i % 256 * 31 + i / 256 + number % 256 * 17) % 256) as u8
 }
 
-// Where a reading goes on from, unless it stops.
+// Where a reading goes on from, unless it stops. run_feed asks whether it stops, and feed_next what the state is then: three results of
+// one match.
 fn goes_on(answer: Result<Next, Refusal>) -> Option<usize> {
     match answer {
         Ok(Next::Record(record)) => Some(record.end),
