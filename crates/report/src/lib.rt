@@ -40,14 +40,15 @@ impl Filler {
     const BUFFER: u8 = 0x5a;
 }
 
-// What the steps are done on: the runtime, which takes the lines, and the arrays. Each step asks that its n, m and bytes lie in
-// them: a type that says so would have to be made at each step, and a slice can't go beside `&mut self`.
+// What the steps are done on: the runtime, which takes the lines, and the arrays; public, so that a caller may bring arrays of its own.
+// Each step says which of them stay as they are. It asks that its n, m and bytes lie in them: a type that says so would have to be made
+// at each step, and a slice can't go beside `&mut self`.
 #[derive(Drop)]
 pub struct Bench<'a, P: Print> {
-    rt: &'a P,
+    pub rt: &'a P,
     pub log: [u8; Length::LOG],
     pub record: [u8; Length::RECORD],
-    buffer: [u8; Length::BUFFER],
+    pub buffer: [u8; Length::BUFFER],
 }
 
 impl<'a, P: Print> Bench<'a, P> {
@@ -63,7 +64,9 @@ impl<'a, P: Print> Bench<'a, P> {
     }
 
     // Begins a scenario.
-    pub fn scenario(&mut self, title: impl Display + Drop) -> io::Result<()> {
+    pub fn scenario(&mut self, title: impl Display + Drop) -> io::Result<()>
+        ensures { self.new.record ≡ self.old.record }
+    {
         self.fill_log();
         self.buffer.fill(Filler::BUFFER);
         println!(self.rt; "# {title}")
@@ -71,7 +74,8 @@ impl<'a, P: Print> Bench<'a, P> {
 
     // Fills the log, so that bytes that a call left alone can be seen.
     pub fn fill_log(&mut self)
-        ensures { EachIndex self.new.log (λ k. slice_index self.new.log k ≡ Filler.LOG) }
+        ensures filled { EachIndex self.new.log (λ k. slice_index self.new.log k ≡ Filler.LOG) }
+        ensures others { (self.new.record ≡ self.old.record) × (self.new.buffer ≡ self.old.buffer) }
     {
         self.log.fill(Filler::LOG);
     }
@@ -87,6 +91,7 @@ impl<'a, P: Print> Bench<'a, P> {
     // Puts the bytes of record number `number` at the record's front.
     pub fn make_record(&mut self, number: usize, bytes: usize)
         requires { bytes ≤ Length.RECORD }
+        ensures { (self.new.log ≡ self.old.log) × (self.new.buffer ≡ self.old.buffer) }
     {
         for (i, byte) in self.record[..bytes].iter_mut().enumerate() {
             *byte = record_byte(number, i);
@@ -96,7 +101,8 @@ impl<'a, P: Print> Bench<'a, P> {
     // Changes a byte of the log by xor.
     pub fn change(&mut self, place: usize, by: u8)
         requires { place < Length.LOG }
-        ensures { self.new.log ≡ set self.old.log place (bit_xor (slice_index self.old.log place) by) }
+        ensures changed { self.new.log ≡ set self.old.log place (bit_xor (slice_index self.old.log place) by) }
+        ensures others { (self.new.record ≡ self.old.record) × (self.new.buffer ≡ self.old.buffer) }
     {
         self.log[place] ^= by;
     }
@@ -105,6 +111,7 @@ impl<'a, P: Print> Bench<'a, P> {
     pub fn append(&mut self, n: usize, mark: usize, number: usize, bytes: usize) -> io::Result<()>
         requires n_bound { n ≤ Length.LOG }
         requires bytes_bound { bytes ≤ Length.RECORD }
+        ensures { self.new.buffer ≡ self.old.buffer }
     {
         self.make_record(number, bytes);
         self.append_made(n, mark, bytes)
@@ -114,6 +121,7 @@ impl<'a, P: Print> Bench<'a, P> {
     pub fn append_made(&mut self, n: usize, mark: usize, bytes: usize) -> io::Result<()>
         requires n_bound { n ≤ Length.LOG }
         requires bytes_bound { bytes ≤ Length.RECORD }
+        ensures { (self.new.record ≡ self.old.record) × (self.new.buffer ≡ self.old.buffer) }
     {
         let record = &self.record[..bytes];
         let log = &mut self.log[..];
@@ -123,6 +131,7 @@ impl<'a, P: Print> Bench<'a, P> {
     // Appends a record that is not in the array.
     pub fn append_bytes(&mut self, n: usize, mark: usize, record: &[u8]) -> io::Result<()>
         requires { n ≤ Length.LOG }
+        ensures { (self.new.«record» ≡ self.old.«record») × (self.new.buffer ≡ self.old.buffer) }
     {
         append(self.rt, &mut self.log[..n], mark, record)
     }
@@ -131,6 +140,7 @@ impl<'a, P: Print> Bench<'a, P> {
     pub fn next(&mut self, n: usize, place: usize, limit: usize, m: usize) -> io::Result<()>
         requires n_bound { n ≤ Length.LOG }
         requires m_bound { m ≤ Length.BUFFER }
+        ensures { (self.new.log ≡ self.old.log) × (self.new.record ≡ self.old.record) }
     {
         let _ = self.answer(n, place, limit, m)?;
         Ok(())
@@ -146,6 +156,7 @@ impl<'a, P: Print> Bench<'a, P> {
     ) -> io::Result<Result<Next, Refusal>>
         requires n_bound { n ≤ Length.LOG }
         requires m_bound { m ≤ Length.BUFFER }
+        ensures { (self.new.log ≡ self.old.log) × (self.new.record ≡ self.old.record) }
     {
         let log = &self.log[..n];
         let buffer = &mut self.buffer[..];
@@ -158,6 +169,7 @@ impl<'a, P: Print> Bench<'a, P> {
     // Reads from place 0 to the end, with the log's first n bytes and the whole buffer lent.
     pub fn read(&mut self, n: usize, limit: usize) -> io::Result<()>
         requires { n ≤ Length.LOG }
+        ensures { (self.new.log ≡ self.old.log) × (self.new.record ≡ self.old.record) }
     {
         let mut place = 0;
         // Each answer but the last takes a byte at least, so that there are no more than these.
