@@ -2,7 +2,7 @@
 // the four type bytes; then the checksum of each vector in two goes and in three, cut at every place.
 #![tactic(auto)]
 
-ghost use Rattle.std.specs.Prelude.{◌≤◌, length};
+ghost use Rattle.std.specs.Prelude.{◌+◌, ◌≤◌, length};
 
 use crc32c::{Crc32c, Mask};
 use std::fmt::Display;
@@ -68,10 +68,17 @@ fn cut_at(rt: &impl Print, name: &str, bytes: &[u8], at: usize) -> io::Result<()
     let (before, rest) = bytes.split_at(at);
     let first = Crc32c::extend(0, before);
     let whole = Crc32c::extend(first, rest);
-    let same = (0..=rest.len())
-        .filter(|at| in_two(first, rest, *at) == whole)
-        .count();
+    let same = same(first, rest, whole);
     println!(rt; "{first:08x} {whole:08x} {same} {name}, cut at {at}")
+}
+
+// How many cuts give the whole, of those at each place, the two ends among them.
+fn same(before: u32, bytes: &[u8], whole: u32) -> usize
+    ensures { result ≤ length bytes.now + 1 }
+{
+    (0..=bytes.len())
+        .filter(|at| in_two(before, bytes, *at) == whole)
+        .count()
 }
 
 // The checksum in two more goes, cut at the place.

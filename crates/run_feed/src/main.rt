@@ -44,17 +44,16 @@ struct Reader<'a, R: Input + Print> {
 impl<R: Input + Print> Reader<'_, R> {
     fn read(&mut self, feed: Feed) -> io::Result<()> {
         let mut now = feed;
-        // Each piece but the last has a byte at least, so that there are no more than these.
+        // Each piece but the last has a byte at least, so that there are no more than these. The test lets through every state that a
+        // piece leads to, unless it has no bytes: then the input has ended.
         for _ in 0..=Log::LONGEST {
             let mut piece = [0u8; PIECE];
             let n = read_full(&mut self.rt.reader(), &mut piece);
-            if n == 0 {
-                break;
+            match self.take(now, &piece[..n])? {
+                Some(after) if now.came < after.came => now = after,
+                Some(_) => break,
+                None => return Ok(()),
             }
-            let Some(after) = self.take(now, &piece[..n])? else {
-                return Ok(());
-            };
-            now = after;
         }
         self.draw(feed_state::end(now))?;
         Ok(())
