@@ -55,7 +55,8 @@ pub fn began(answer: Result<Feed, Refusal>) -> [u64; 10]
     ensures { result ≡ numbers.began_numbers answer }
 {
     match answer {
-        Ok(_) => [0; 10],
+        // Written out: of `[0; 10]` the compiler makes an array of its own, and copies it.
+        Ok(_) => [0, 0, 0, 0, 0, 0, 0, 0, 0, 0],
         Err(refusal) => answer_numbers::refused(1, refusal),
     }
 }
