@@ -2,7 +2,7 @@
 // that a step can be checked by hand.
 #![tactic(auto)]
 
-ghost use Rattle.std.specs.Prelude.{◌≤◌};
+ghost use Rattle.std.specs.Prelude.{◌≡◌, ◌≤◌};
 
 use by_hand::ByHand;
 use log_format::Record;
@@ -24,7 +24,9 @@ fn main(rt: HostRuntime) -> io::Result<()> {
 
 // A log with room for such a record and the record together are more than the stack has: that the longest one is accepted is run from
 // Rust, and here its refusal is 4, and not 3.
-fn longest_record(bench: &mut Bench<'_, impl Print>, zeros: &[u8; LONG]) -> io::Result<()> {
+fn longest_record(bench: &mut Bench<'_, impl Print>, zeros: &[u8; LONG]) -> io::Result<()>
+    ensures { bench.new.record ≡ bench.old.record }
+{
     bench.scenario("the longest record and one byte more, with no room for either")?;
     bench.append_bytes(262_144, 0, &zeros[..4_194_304])?;
     bench.append_bytes(262_144, 0, zeros)?;

@@ -1,7 +1,7 @@
 // Writes what is read of the example of the log format's text: whole, cut at two places, and with a byte changed.
 #![tactic(auto)]
 
-ghost use Rattle.std.specs.Prelude.{◌≤◌};
+ghost use Rattle.std.specs.Prelude.{◌≡◌, ◌≤◌};
 
 use report::{Bench, Length};
 use std::io;
@@ -42,7 +42,9 @@ fn changed(bench: &mut Bench<'_, impl Print>) -> io::Result<()> {
 }
 
 // Rows 1 to 3 of the table M, in turn.
-fn example(bench: &mut Bench<'_, impl Print>) -> io::Result<()> {
+fn example(bench: &mut Bench<'_, impl Print>) -> io::Result<()>
+    ensures { bench.new.buffer ≡ bench.old.buffer }
+{
     bench.append(FILLED, 0, 1, 1_000)?;
     bench.append(FILLED, 1_007, 2, 97_270)?;
     bench.append(FILLED, 98_298, 3, 8_000)
@@ -51,6 +53,7 @@ fn example(bench: &mut Bench<'_, impl Print>) -> io::Result<()> {
 // Reads the log's first n bytes to their end.
 fn read(bench: &mut Bench<'_, impl Print>, n: usize) -> io::Result<()>
     requires { n ≤ Length.LOG }
+    ensures { (bench.new.log ≡ bench.old.log) × (bench.new.record ≡ bench.old.record) }
 {
     bench.read(n, Length::BUFFER)?;
     bench.sums(n)

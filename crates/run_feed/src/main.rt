@@ -3,7 +3,7 @@
 // No contract can say what is read or written. rust/reference has the same program, and what it writes is what this one is held to.
 #![tactic(auto)]
 
-ghost use Rattle.std.specs.Prelude.{◌≤◌, length};
+ghost use Rattle.std.specs.Prelude.{◌≡◌, ◌≤◌, length};
 
 mod line;
 
@@ -86,7 +86,9 @@ impl<R: Input + Print> Reader<'_, R> {
     }
 
     // Writes the lines of what is certain.
-    fn draw(&mut self, feed: Feed) -> io::Result<Option<Feed>> {
+    fn draw(&mut self, feed: Feed) -> io::Result<Option<Feed>>
+        ensures { self.new.block ≡ self.old.block }
+    {
         let mut now = feed;
         // A block has fewer answers than bytes: each takes those of a header at least, or interrupts a record that took them.
         for _ in 0..Block::SIZE {

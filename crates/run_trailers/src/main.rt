@@ -2,7 +2,7 @@
 // inside a record is put by hand.
 #![tactic(auto)]
 
-ghost use Rattle.std.specs.Prelude.{◌≤◌, ◌<◌};
+ghost use Rattle.std.specs.Prelude.{◌≡◌, ◌≤◌, ◌<◌};
 ghost use Rattle.log_layout.specs.declared.TheConstants.Header.{SIZE};
 
 use by_hand::ByHand;
@@ -50,7 +50,9 @@ impl Trailer {
     }
 
     // The log cut where the first trailer starts, before its last byte, after it, and before the second one's last byte.
-    fn cuts(self, bench: &mut Bench<'_, impl Print>) -> io::Result<()> {
+    fn cuts(self, bench: &mut Bench<'_, impl Print>) -> io::Result<()>
+        ensures { (bench.new.log ≡ bench.old.log) × (bench.new.record ≡ bench.old.record) }
+    {
         bench.read(32_768 - self.bytes, Length::BUFFER)?;
         bench.read(32_767, Length::BUFFER)?;
         bench.read(32_768, Length::BUFFER)?;
@@ -73,6 +75,7 @@ impl Trailer {
 
     fn each_byte_dirty(self, bench: &mut Bench<'_, impl Print>, n: usize) -> io::Result<()>
         requires { n ≤ Length.LOG }
+        ensures { bench.new.record ≡ bench.old.record }
     {
         for place in 32_768 - self.bytes..32_768 {
             dirty(bench, place, n)?;
@@ -81,7 +84,9 @@ impl Trailer {
     }
 
     // The first byte is dirty: a call there, and one after it.
-    fn from_inside(self, bench: &mut Bench<'_, impl Print>) -> io::Result<()> {
+    fn from_inside(self, bench: &mut Bench<'_, impl Print>) -> io::Result<()>
+        ensures { bench.new.record ≡ bench.old.record }
+    {
         bench.change(32_768 - self.bytes, 1);
         bench.next(32_875, 32_768 - self.bytes, 100, 100)?;
         bench.next(32_875, 32_769 - self.bytes, 100, 100)
@@ -98,6 +103,7 @@ impl Trailer {
 fn dirty(bench: &mut Bench<'_, impl Print>, place: usize, n: usize) -> io::Result<()>
     requires place_bound { place < 32_768 }
     requires n_bound { n ≤ Length.LOG }
+    ensures { bench.new.record ≡ bench.old.record }
 {
     bench.change(place, 1);
     bench.read(n, Length::BUFFER)?;
